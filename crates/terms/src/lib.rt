@@ -1,0 +1,3 @@
+// What every crate of the study shares: the limits of its numbers, and the reasons for which a call is refused.
+pub mod limits;
+pub mod refusal;
