@@ -1,0 +1,3 @@
+// The ground: layers from the surface down, and what may be done to them.
+pub mod layer;
+pub mod table;
