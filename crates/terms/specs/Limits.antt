@@ -87,6 +87,10 @@ load-limits = from-to 1 1000000
 abbrev pub factor-limits : Limits
 factor-limits = from-to 1000 2000
 
+-- unit friction of a layer, Pa: a thousand times the greatest ceiling
+abbrev pub friction-limits : Limits
+friction-limits = from-to 0 500000
+
 -- what a transfer law is asked with: unit resistance in Pa, displacement in nm
 abbrev pub unit-resistance-limits : Limits
 unit-resistance-limits = from-to 0 40000000

@@ -117,6 +117,12 @@ pub const FACTOR: Limits = Limits {
     most: 2_000,
 };
 
+// Unit friction of a layer, Pa: a thousand times the greatest ceiling
+pub const FRICTION: Limits = Limits {
+    least: 0,
+    most: 500_000,
+};
+
 // What a transfer law is asked with: unit resistance in Pa, displacement in nm; and the length of a hyperbola in nm.
 pub const UNIT_RESISTANCE: Limits = Limits {
     least: 0,
