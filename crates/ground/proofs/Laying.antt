@@ -40,7 +40,7 @@ layable above l h =
     record {
       fits = ap (λ o. not (isSome o)) (p .0);
       few = leb-false _ _ (when-none _ _ (q .0));
-      shallow = ltb-false _ _ (when-none _ _ (q .1))
+      shallow = ltb-false _ _ (when-none _ _ (q .1));
     }
 
 -- layers that may all be laid below those above them

@@ -21,5 +21,5 @@ returns c =
     let xs = c .args .layers .now in record {
       items = c .loop-layer .inv .0 ∙ take-all (c .loop-layer .layer-index) xs (c .loop-layer-test .left);
       len = search needs;
-      capacity = search needs
+      capacity = search needs;
     }
