@@ -1,10 +1,10 @@
 -- Laying layers one after the other: what is known where none is refused, and one step on.
 use mathlib.Core.Path.{_≡_, refl, sym, ap, _∙_}
-use mathlib.Core.List.{List, [], _∷_, _++_}
+use mathlib.Core.List.{List, [], _∷_}
 use mathlib.Core.Bool.{Bool, true, false, not}
 use Prim.Native.Nat.{ℕ, _+_, _≤_, _<_}
 use native.Mathlib.Omega.{arith}
-use lib.Dec.{ltb, leb}
+use lib.Dec.{leb}
 use lib.ListN.{length, getD, take, drop}
 use Rattle.std.proofs.shelf.Tests.{and-from, ltb-false, leb-false}
 use Rattle.std.proofs.shelf.Lists.{length-push, take-more, at-drop-more}
@@ -16,7 +16,7 @@ use Rattle.terms.specs.Limits.{max-layers, max-depth}
 use Rattle.terms.specs.Chains.{when, or-else}
 use Rattle.ground.specs.declared.layer.Layer.{Layer}
 use Rattle.ground.specs.Layers.{depth, sound, fit, layer-flaw}
-use Rattle.ground.specs.Edits.{lay-refusal, laid, lay-all-refusal, replace-refusal}
+use Rattle.ground.specs.Edits.{lay-refusal, laid, lay-all-refusal}
 use Rattle.ground.proofs.Tables.{depth-push}
 
 or-else-none : {X : Type 0} (a b : Option X) → or-else a b ≡ None → (a ≡ None) × (b ≡ None)

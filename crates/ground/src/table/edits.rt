@@ -51,7 +51,7 @@ fn refuse(above: &[Layer], layer: &Layer) -> Option<Refusal>
     None
 }
 
-// Why these layers may not be laid, one after the other, on no layers.
+// Why these layers may not be laid, one after the other, on no layers. The 33rd turn is the last, since it refuses.
 fn first_refusal(layers: &[Layer]) -> Option<Refusal>
     ensures { λ r. ⌜ r ≡ replace-refusal (now (layers .entry)) ⌝ }
 {
