@@ -1,15 +1,12 @@
 -- What depth and soundness become under one change.
-use mathlib.Core.Path.{_≡_, refl, sym, ap, subst, _∙_}
+use mathlib.Core.Path.{_≡_, refl, ap}
 use mathlib.Core.List.{List, [], _∷_, _++_}
-use mathlib.Core.Bool.{Bool, true, false, _&&_}
+use mathlib.Core.Bool.{true, false}
 use Prim.Native.Nat.{ℕ, zero, suc, _+_, _≤_, _<_}
 use native.Mathlib.Omega.{arith}
-use mathlib.Core.Logic.{inl, inr}
-use borrow.Author.Needs.{needs}
 use lib.ListN.{length, getD, set, take}
-use Rattle.std.proofs.shelf.Tests.{and-parts, and-from, ltb-true, ltb-false, or-parts, cases-bool}
+use Rattle.std.proofs.shelf.Tests.{and-parts, and-from}
 use Rattle.ground.specs.declared.layer.Layer.{Layer}
-use Rattle.std.specs.declared.option.Option.the-variants.{Some, None}
 use Rattle.terms.specs.Limits.{outside, pressure-limits, modulus-limits}
 use Rattle.ground.specs.Layers.{depth, sound, fit}
 use Rattle.ground.specs.Edits.{revised}

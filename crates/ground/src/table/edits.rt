@@ -4,6 +4,7 @@ ghost use mathlib.Core.Bool.{true};
 ghost use mathlib.Core.List.{[], _∷_, _++_};
 ghost use Prim.Native.Nat.{_≤_};
 ghost use lib.ListN.{length};
+ghost use Rattle.std.specs.Of.Vec.{vec-len, vec-cap, vec-items};
 ghost use Rattle.std.specs.Vec.{made};
 ghost use Rattle.terms.specs.Limits.{max-layers, max-depth};
 ghost use Rattle.terms.specs.Chains.{Changes};
@@ -30,6 +31,49 @@ fn total(layers: &[Layer]) -> u64
         sum += layer.thickness;
     }
     sum
+}
+
+// Why this layer may not be laid below those above it.
+fn refuse(above: &[Layer], layer: &Layer) -> Option<Refusal>
+    requires { ⌜ depth (now above) ≤ max-depth ⌝ }
+    ensures { λ r. ⌜ r ≡ lay-refusal (now (above .entry)) (now (layer .entry)) ⌝ }
+{
+    if let Some(refusal) = layer.flaw() {
+        return Some(refusal);
+    }
+    let index = above.len() as u64;
+    if above.len() >= MAX_LAYERS {
+        return Some(Refusal::SurplusLayer { index });
+    }
+    if total(above) + layer.thickness > MAX_DEPTH {
+        return Some(Refusal::DeepGround { index });
+    }
+    None
+}
+
+// Why these layers may not be laid, one after the other, on no layers. The 33rd turn is the last, since it refuses.
+fn first_refusal(layers: &[Layer]) -> Option<Refusal>
+    ensures { λ r. ⌜ r ≡ replace-refusal (now (layers .entry)) ⌝ }
+{
+    for (i, layer) in layers.iter().enumerate() {
+        if let Some(refusal) = refuse(&layers[..i], layer) {
+            return Some(refusal);
+        }
+    }
+    None
+}
+
+// These layers in place of all; there is room for them.
+fn refill(table: &mut Vec<Layer>, layers: &[Layer])
+    requires { ⌜ length (now layers) ≤ vec-cap (now table) ⌝ }
+    ensures items { λ _. ⌜ vec-items (now (table .exit)) ≡ now (layers .entry) ⌝ }
+    ensures len { λ _. ⌜ vec-len (now (table .exit)) ≡ length (now (layers .entry)) ⌝ }
+    ensures capacity { λ _. ⌜ vec-cap (now (table .exit)) ≡ vec-cap (now (table .entry)) ⌝ }
+{
+    table.clear();
+    for layer in layers {
+        table.push_reserved(*layer);
+    }
 }
 
 impl Ground {
@@ -62,15 +106,8 @@ impl Ground {
     pub fn lay(&mut self, layer: Layer) -> Result<(), Refusal>
         ensures { λ r. ⌜ Changes strata (lay-refusal (strata (now (self .entry))) layer) (now (self .entry)) (laid (strata (now (self .entry))) layer) r (now (self .exit)) ⌝ }
     {
-        if let Some(refusal) = layer.flaw() {
+        if let Some(refusal) = refuse(self.layers(), &layer) {
             return Err(refusal);
-        }
-        let index = self.layers.len() as u64;
-        if self.layers.len() >= MAX_LAYERS {
-            return Err(Refusal::SurplusLayer { index });
-        }
-        if self.depth() + layer.thickness > MAX_DEPTH {
-            return Err(Refusal::DeepGround { index });
         }
         self.layers.push_reserved(layer);
         Ok(())
@@ -107,6 +144,17 @@ impl Ground {
             return Err(Refusal::NoLayerToLift);
         }
         self.layers.pop();
+        Ok(())
+    }
+
+    // These layers in place of all, or, if one of them is refused, no change.
+    pub fn replace(&mut self, layers: &[Layer]) -> Result<(), Refusal>
+        ensures { λ r. ⌜ Changes strata (replace-refusal (now (layers .entry))) (now (self .entry)) (now (layers .entry)) r (now (self .exit)) ⌝ }
+    {
+        if let Some(refusal) = first_refusal(layers) {
+            return Err(refusal);
+        }
+        refill(&mut self.layers, layers);
         Ok(())
     }
 }

@@ -4,8 +4,8 @@ use mathlib.Core.Path.{_≡_, ap, _∙_}
 use mathlib.Core.Bool.{true}
 use Prim.Native.Nat.{_<_}
 use lib.ListN.{length}
-use Rattle.std.specs.Of.Vec.{vec-len, vec-items}
-use Rattle.ground.specs.Layers.{depth, sound, fit}
+use Rattle.std.specs.Of.Vec.{vec-items}
+use Rattle.ground.specs.Layers.{fit}
 use Rattle.ground.specs.Edits.{revised}
 use Rattle.ground.proofs.Tables.{depth-set, sound-set, sound-at, fit-revised}
 use Rattle.ground.proofs.table.Ground.amend.Needs as need
