@@ -1,0 +1,4 @@
+pub mod Asking
+pub mod Quotients
+pub mod FrankZhaoCurve
+pub mod HyperbolaCurve

@@ -1,0 +1,4 @@
+pub mod Curve
+pub mod Asked
+pub mod FrankZhao
+pub mod Hyperbola
