@@ -1,0 +1,4 @@
+pub mod Rule
+pub mod Cone
+pub mod Series
+pub mod Pressuremeter
