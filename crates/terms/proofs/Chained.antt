@@ -21,6 +21,14 @@ pub when-none : (b : Bool) (r : Refusal) → when b r ≡ None → b ≡ false
 when-none false r e = refl
 when-none true r e = absurd (let z : _≡_ {A = ℕ} 0 1 = cc in omega arith)
 
+pub or-free : {X : Type 0} (a b : Option X) → a ≡ None → b ≡ None → or-else a b ≡ None
+or-free None b e f = f
+or-free (Some x) b e f = absurd (let z : _≡_ {A = ℕ} 0 1 = cc in omega arith)
+
+pub when-free : (b : Bool) (r : Refusal) → b ≡ false → when b r ≡ None
+when-free false r e = refl
+when-free true r e = absurd (let z : _≡_ {A = ℕ} 0 1 = cc in omega arith)
+
 pub none-of : {X : Type 0} (o : Option X) → not (isSome o) ≡ true → o ≡ None
 none-of None e = refl
 none-of (Some x) e = absurd (let z : _≡_ {A = ℕ} 0 1 = cc in omega arith)

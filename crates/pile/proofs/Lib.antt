@@ -1,0 +1,5 @@
+pub mod Bounds
+pub mod Integrals
+pub mod Bearings
+pub mod Shafts
+pub mod Tips

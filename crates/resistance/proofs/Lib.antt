@@ -1,0 +1,4 @@
+pub mod Nearness
+pub mod Margins
+pub mod OneLayer
+pub mod Sizes

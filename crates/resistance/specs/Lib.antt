@@ -1,0 +1,4 @@
+pub mod UnitFriction
+pub mod Fetched
+pub mod Resistance
+pub mod Judging

@@ -1,0 +1,4 @@
+// The resistance of a pile by a friction rule, its margin, the design capacity and the verdict.
+pub mod fetching;
+pub mod judging;
+pub mod margin;

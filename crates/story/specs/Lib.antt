@@ -1,0 +1,5 @@
+pub mod Allowed
+pub mod Story
+pub mod Places
+pub mod Says
+pub mod Tales
