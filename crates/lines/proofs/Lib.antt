@@ -1,0 +1,5 @@
+pub mod Digits
+pub mod Onward
+pub mod Listed
+pub mod Once
+pub mod Adding

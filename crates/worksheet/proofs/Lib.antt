@@ -1,0 +1,4 @@
+pub mod Cuts
+pub mod Outcomes
+pub mod Steps
+pub mod Joined

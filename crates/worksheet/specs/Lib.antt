@@ -1,0 +1,4 @@
+pub mod Cutting
+pub mod Replies
+pub mod Sheets
+pub mod Pieces
