@@ -3,6 +3,7 @@ use mathlib.Core.List.{List, [], _∷_}
 use mathlib.Core.Bool.{cond}
 use Prim.Native.Nat.{ℕ, _+_, _-_, _*_, min}
 use lib.Dec.{ltb}
+use Rattle.terms.specs.Limits.{area-limits, unit-resistance-limits, perimeter-limits, length-limits, friction-limits}
 use Rattle.ground.specs.declared.layer.Layer.{Layer}
 use Rattle.pile.specs.declared.numbers.PileNumbers.{PileNumbers}
 use Rattle.pile.specs.Tip.{tip-resistance}
@@ -27,6 +28,9 @@ shaft-resistance perimeter (s ∷ ss) (q ∷ qs) = perimeter * s .height * q + s
 abbrev pub resistance-over : List Layer → PileNumbers → List ℕ → ℕ
 resistance-over ls n qs = n .«tip_area» * tip-resistance ls n + shaft-resistance (n .perimeter) (parts-above (n .length) ls) qs
 
--- no R is above this, by the limits of area, tip factor, pressure, perimeter, length and friction
+-- no sum along a shaft is above this, and no R above the next, by the limits of their factors
+abbrev pub max-along-shaft : ℕ
+max-along-shaft = perimeter-limits .most * length-limits .most * friction-limits .most
+
 abbrev pub max-resistance : ℕ
-max-resistance = 8000000 * 40000000 + 10000 * 25000 * 500000
+max-resistance = area-limits .most * unit-resistance-limits .most + max-along-shaft

@@ -2,13 +2,14 @@
 ghost use mathlib.Core.Path.{_≡_};
 ghost use mathlib.Core.Bool.{true};
 ghost use Prim.Native.Nat.{_≤_};
+ghost use Rattle.terms.specs.Limits.{perimeter-limits, length-limits};
 ghost use Rattle.terms.specs.Chains.{Answers};
 ghost use Rattle.ground.specs.Table.{strata};
 ghost use Rattle.pile.specs.Driven.{numbers-of};
 ghost use Rattle.pile.specs.Frictions.{all-moderate};
 ghost use Rattle.pile.specs.FrictionList.{friction-list};
 ghost use Rattle.pile.specs.Tip.{shallow-refusal};
-ghost use Rattle.pile.specs.Shaft.{parts-above, shaft-resistance, resistance-over, max-resistance};
+ghost use Rattle.pile.specs.Shaft.{parts-above, shaft-resistance, resistance-over, max-along-shaft, max-resistance};
 use crate::driven::Pile;
 use crate::frictions::Frictions;
 use crate::tip::tip_resistance;
@@ -18,9 +19,9 @@ use terms::refusal::Refusal;
 
 // Along the shaft: perimeter × height × friction, over the layers above the tip.
 fn along_shaft(layers: &[Layer], perimeter: u64, length: u64, frictions: &[u64]) -> u64
-    requires { ⌜ (perimeter ≤ 10000) × (length ≤ 25000) × (all-moderate (now frictions) ≡ true) ⌝ }
+    requires { ⌜ (perimeter ≤ perimeter-limits .most) × (length ≤ length-limits .most) × (all-moderate (now frictions) ≡ true) ⌝ }
     ensures value { λ r. ⌜ r ≡ shaft-resistance perimeter (parts-above length (now (layers .entry))) (now (frictions .entry)) ⌝ }
-    ensures small { λ r. ⌜ r ≤ 125000000000000 ⌝ }
+    ensures small { λ r. ⌜ r ≤ max-along-shaft ⌝ }
 {
     let mut left = length;
     let mut sum = 0;

@@ -2,6 +2,7 @@
 ghost use mathlib.Core.Path.{_≡_};
 ghost use Prim.Native.Nat.{_≤_};
 ghost use Rattle.std.specs.Options.{Cases as BySome};
+ghost use Rattle.terms.specs.Limits.{unit-resistance-limits};
 ghost use Rattle.terms.specs.Chains.{Answers};
 ghost use Rattle.ground.specs.Layers.{depth};
 ghost use Rattle.ground.specs.Table.{strata};
@@ -80,7 +81,7 @@ pub fn depth_needed(pile: &Pile) -> u64
 
 // qb in Pa, or a refusal where the ground ends above the averaging's.
 pub fn tip_resistance(ground: &Ground, pile: &Pile) -> Result<u64, Refusal>
-    ensures { λ r. ⌜ Answers (shallow-refusal (strata (now (ground .entry))) (numbers-of (now (pile .entry)))) (λ q. (q ≡ tip-resistance (strata (now (ground .entry))) (numbers-of (now (pile .entry)))) × (q ≤ 40000000)) r ⌝ }
+    ensures { λ r. ⌜ Answers (shallow-refusal (strata (now (ground .entry))) (numbers-of (now (pile .entry)))) (λ q. (q ≡ tip-resistance (strata (now (ground .entry))) (numbers-of (now (pile .entry)))) × (q ≤ unit-resistance-limits .most)) r ⌝ }
 {
     let numbers = pile.numbers();
     let tip = numbers.length;
