@@ -2,3 +2,5 @@
 pub mod fetching;
 pub mod judging;
 pub mod margin;
+#[cfg(test)]
+mod tests;

@@ -5,10 +5,10 @@ ghost use Rattle.resistance.specs.Resistance.{margin-of};
 use friction::rule::FrictionRule;
 use pile::driven::Pile;
 
-// What rounding qb, the ceiling and 7/10 add to the rule's tolerance, Pa.
+// What rounding 7/10 down adds to the rule's tolerance, Pa; the ceiling adds nothing.
 const ROUNDING: u64 = 1;
 
-// (tolerance + 1)·P·D + A, in µN: the shaft's part by the rule's own constant, and 1 Pa under the tip.
+// (tolerance + 1)·P·D + A, in µN: the shaft's part by the rule's own constant, and 1 Pa under the tip for rounding qb.
 pub fn margin<R: FrictionRule>(pile: &Pile) -> u64
     ensures { λ r. ⌜ r ≡ margin-of (R·FrictionRule .tolerance) (numbers-of (now (pile .entry))) ⌝ }
 {

@@ -11,6 +11,9 @@ use study::holder::Study;
 use terms::refusal::Refusal;
 use transfer::TransferLaw;
 
+#[cfg(test)]
+mod tests;
+
 fn say(result: Result<(), Refusal>) -> Answer
     ensures { λ r. ⌜ r ≡ said result ⌝ }
 {
