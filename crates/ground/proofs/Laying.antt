@@ -1,7 +1,7 @@
 -- Laying layers one after the other: what is known where none is refused, and one step on.
 use mathlib.Core.Path.{_≡_, refl, sym, ap, _∙_}
 use mathlib.Core.List.{List, [], _∷_}
-use mathlib.Core.Bool.{Bool, true, false, not}
+use mathlib.Core.Bool.{true, not}
 use Prim.Native.Nat.{ℕ, _+_, _≤_, _<_}
 use native.Mathlib.Omega.{arith}
 use lib.Dec.{leb}
@@ -9,23 +9,15 @@ use lib.ListN.{length, getD, take, drop}
 use Rattle.std.proofs.shelf.Tests.{and-from, ltb-false, leb-false}
 use Rattle.std.proofs.shelf.Lists.{length-push, take-more, at-drop-more}
 use Rattle.std.specs.Options.{isSome}
-use Rattle.std.specs.declared.option.Option.{Option}
 use Rattle.std.specs.declared.option.Option.the-variants.{Some, None}
 use Rattle.terms.specs.declared.refusal.Refusal.{Refusal}
 use Rattle.terms.specs.Limits.{max-layers, max-depth}
 use Rattle.terms.specs.Chains.{when, or-else}
+use Rattle.terms.proofs.Chained.{or-none, when-none}
 use Rattle.ground.specs.declared.layer.Layer.{Layer}
 use Rattle.ground.specs.Layers.{depth, sound, fit, layer-flaw}
 use Rattle.ground.specs.Edits.{lay-refusal, laid, lay-all-refusal}
 use Rattle.ground.proofs.Tables.{depth-push}
-
-or-else-none : {X : Type 0} (a b : Option X) → or-else a b ≡ None → (a ≡ None) × (b ≡ None)
-or-else-none (Some x) b h = absurd (let z : _≡_ {A = ℕ} 0 1 = cc in omega arith)
-or-else-none None b h = (refl, h)
-
-when-none : (b : Bool) (r : Refusal) → when b r ≡ None → b ≡ false
-when-none true r h = absurd (let z : _≡_ {A = ℕ} 0 1 = cc in omega arith)
-when-none false r h = refl
 
 -- a layer that may be laid below those above it
 pub record Layable (above : List Layer) (l : Layer) : Type 0 where
@@ -35,8 +27,8 @@ pub record Layable (above : List Layer) (l : Layer) : Type 0 where
 
 pub layable : (above : List Layer) (l : Layer) → lay-refusal above l ≡ None → Layable above l
 layable above l h =
-    let p = or-else-none (layer-flaw l) _ h in
-    let q = or-else-none (when (leb max-layers (length above)) _) _ (p .1) in
+    let p = or-none (layer-flaw l) _ h in
+    let q = or-none (when (leb max-layers (length above)) _) _ (p .1) in
     record {
       fits = ap (λ o. not (isSome o)) (p .0);
       few = leb-false _ _ (when-none _ _ (q .0));
@@ -52,7 +44,7 @@ pub record All-layable (above ls : List Layer) : Type 0 where
 pub all-layable : (above ls : List Layer) → length above ≤ max-layers → depth above ≤ max-depth → lay-all-refusal above ls ≡ None → All-layable above ls
 all-layable above [] n d h = record { fits = refl; few = omega arith; shallow = omega arith }
 all-layable above (l ∷ ls) n d h =
-    let p = or-else-none (lay-refusal above l) _ h in
+    let p = or-none (lay-refusal above l) _ h in
     let q = layable above l (p .0) in
     let more = length-push above l in
     let deeper = depth-push above l in

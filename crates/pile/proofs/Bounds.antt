@@ -1,16 +1,16 @@
 -- The limits that the numbers of a pile, of a layer and of a list of frictions keep.
 use mathlib.Core.Path.{_≡_, refl}
 use mathlib.Core.List.{List, [], _∷_, _++_}
-use mathlib.Core.Bool.{true, false, not}
+use mathlib.Core.Bool.{true, false, not, _&&_}
 use Prim.Native.Nat.{ℕ, zero, suc, _≤_, _<_, _%_}
 use native.Mathlib.Omega.{arith}
 use lib.Dec.{eqb, ltb}
 use lib.ListN.{length, getD}
-use Rattle.std.proofs.shelf.Tests.{and-parts, and-from, not-true, not-from-false, or-parts, ltb-false}
-use Rattle.terms.specs.declared.refusal.Refusal.the-variants.{PileNumber, OddDiameter, LayerNumber}
-use Rattle.terms.specs.Limits.{outside, Within, category-limits, mark-limits, diameter-limits, perimeter-limits, area-limits, pile-modulus-limits, length-limits, tip-factor-limits, step-limits, soil-limits, thickness-limits, pressure-limits, modulus-limits, ceiling-limits, friction-limits}
+use Rattle.std.proofs.shelf.Tests.{and-parts, and-from, not-true, not-false, not-from-false, or-parts, ltb-false, eqb-true}
+use Rattle.terms.specs.declared.refusal.Refusal.the-variants.{PileNumber, OddDiameter, VibrodrivenCategory, LayerNumber}
+use Rattle.terms.specs.Limits.{outside, Within, category-limits, mark-limits, vibrodriven-limits, diameter-limits, perimeter-limits, area-limits, pile-modulus-limits, length-limits, tip-factor-limits, step-limits, soil-limits, thickness-limits, pressure-limits, modulus-limits, ceiling-limits, friction-limits}
 use Rattle.terms.specs.Chains.{when}
-use Rattle.terms.proofs.Chained.{none-of, or-none, within}
+use Rattle.terms.proofs.Chained.{none-of, or-none, when-none, within}
 use Rattle.ground.specs.declared.layer.Layer.{Layer}
 use Rattle.ground.specs.Layers.{fit, layer-flaw}
 use Rattle.pile.specs.declared.numbers.PileNumbers.{PileNumbers}
@@ -21,6 +21,7 @@ pub record Pile-bounds (n : PileNumbers) : Type 0 where
   pub category : Within category-limits (n .category)
   pub mark : Within mark-limits (n .mark)
   pub diameter : Within diameter-limits (n .diameter)
+  pub even : n .diameter % 2 ≡ 0
   pub perimeter : Within perimeter-limits (n .perimeter)
   pub tip-area : Within area-limits (n .«tip_area»)
   pub section : Within area-limits (n .section)
@@ -28,6 +29,7 @@ pub record Pile-bounds (n : PileNumbers) : Type 0 where
   pub length : Within length-limits (n .length)
   pub tip-factor : Within tip-factor-limits (n .«tip_factor»)
   pub step : Within step-limits (n .step)
+  pub marked : (eqb (n .mark) 1 && outside vibrodriven-limits (n .category)) ≡ false
 
 pub pile-bounds : (n : PileNumbers) → sturdy n ≡ true → Pile-bounds n
 pile-bounds n h =
@@ -46,6 +48,7 @@ pile-bounds n h =
       category = within category-limits (n .category) (PileNumber 1) (s1 .0);
       mark = within mark-limits (n .mark) (PileNumber 2) (s2 .0);
       diameter = within diameter-limits (n .diameter) (PileNumber 3) (s3 .0);
+      even = eqb-true (n .diameter % 2) 0 (not-false _ (when-none (not (eqb (n .diameter % 2) 0)) OddDiameter (s4 .0)));
       perimeter = within perimeter-limits (n .perimeter) (PileNumber 4) (s5 .0);
       tip-area = within area-limits (n .«tip_area») (PileNumber 5) (s5 .1);
       section = within area-limits (n .section) (PileNumber 6) (s6 .0);
@@ -53,6 +56,7 @@ pile-bounds n h =
       length = within length-limits (n .length) (PileNumber 8) (s8 .0);
       tip-factor = within tip-factor-limits (n .«tip_factor») (PileNumber 9) (s9 .0);
       step = within step-limits (n .step) (PileNumber 10) (s9 .1);
+      marked = when-none (eqb (n .mark) 1 && outside vibrodriven-limits (n .category)) VibrodrivenCategory (stiff .1);
     }
 
 pub record Layer-bounds (l : Layer) : Type 0 where

@@ -1,17 +1,16 @@
 -- R is within its margin of its exact fraction.
-use mathlib.Core.Path.{_≡_, refl, ap, sym, subst, _∙_}
-use mathlib.Core.List.{List, [], _∷_, map}
+use mathlib.Core.Path.{_≡_, refl, subst}
+use mathlib.Core.List.{List, [], _∷_}
 use mathlib.Core.Bool.{Bool, true, false, cond, not}
-use Prim.Native.Nat.{ℕ, _+_, _-_, _*_, _/_, _≤_, _<_, min}
+use Prim.Native.Nat.{ℕ, _+_, _-_, _*_, _≤_, _<_, min}
 use native.Mathlib.Omega.{arith}
 use lib.Dec.{ltb}
 use Rattle.std.specs.Options.{isSome, valueOr}
 use Rattle.std.specs.declared.option.Option.{Option}
 use Rattle.std.specs.declared.option.Option.the-variants.{Some, None}
-use Rattle.terms.specs.declared.refusal.Refusal.{Refusal}
 use Rattle.terms.specs.declared.refusal.Refusal.the-variants.{NoFriction}
-use Rattle.terms.specs.Chains.{when, or-else}
-use Rattle.terms.specs.Fractions.{Fraction, Near, whole, _⊕_, _⊗_}
+use Rattle.terms.specs.Chains.{when}
+use Rattle.terms.specs.Fractions.{Fraction, Near, whole}
 use Rattle.terms.proofs.Chained.{or-none, when-none}
 use Rattle.ground.specs.declared.layer.Layer.{Layer}
 use Rattle.ground.specs.Layers.{depth}

@@ -1,8 +1,6 @@
 -- How large the products of a judging get.
-use mathlib.Core.Path.{_≡_}
-use Prim.Native.Nat.{ℕ, _+_, _*_, _/_, _≤_}
+use Prim.Native.Nat.{ℕ, _*_, _/_, _≤_}
 use native.Mathlib.Nat.{mul-le-mul, mul-le-mul-left, div-mul-le-self, le-trans}
-use native.Mathlib.Omega.{arith}
 
 -- divided by a factor of at least 1,000 and taken a thousand times, nothing grows
 pub quotient-most : (r f : ℕ) → 1000 ≤ f → r * 1000 / f * 1000 ≤ r * 1000

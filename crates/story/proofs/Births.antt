@@ -1,20 +1,17 @@
 -- Every study has an earlier life: its layers laid, then its pile driven.
-use mathlib.Core.Path.{_≡_, refl, ap, sym, _∙_}
+use mathlib.Core.Path.{_≡_, ap, sym, _∙_}
 use mathlib.Core.List.{List, [], _∷_, _++_, map}
-use mathlib.Core.Bool.{Bool, true, false, not, _&&_}
-use Prim.Native.Nat.{ℕ, _+_, _≤_, _<_}
+use mathlib.Core.Bool.{true}
+use Prim.Native.Nat.{_+_, _≤_, _<_}
 use native.Mathlib.Omega.{arith}
 use lib.ListN.{length}
 use lib.Dec.{leb, ltb}
 use Rattle.std.proofs.shelf.Tests.{and-parts}
 use Rattle.std.proofs.shelf.Lists.{append-nil, append-assoc, length-push}
 use Rattle.std.specs.Options.{mapped}
-use Rattle.std.specs.Of.Vec.{vec-len, vec-items}
 use Rattle.std.specs.declared.option.Option.{Option}
 use Rattle.std.specs.declared.option.Option.the-variants.{Some, None}
-use Rattle.terms.specs.declared.refusal.Refusal.the-variants.{SurplusLayer, DeepGround}
 use Rattle.terms.specs.Limits.{max-layers, max-depth}
-use Rattle.terms.specs.Chains.{when}
 use Rattle.terms.proofs.Chained.{none-of, or-free, when-free}
 use Rattle.ground.specs.declared.layer.Layer.{Layer}
 use Rattle.ground.specs.Table.{strata}

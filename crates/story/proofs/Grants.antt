@@ -2,38 +2,38 @@
 use mathlib.Core.Path.{_≡_, refl, ap, sym, subst, _∙_}
 use mathlib.Core.List.{List, [], _∷_}
 use mathlib.Core.Bool.{Bool, true, false, not, _&&_}
-use Prim.Native.Nat.{ℕ, _+_, _%_, _≤_, _<_}
+use Prim.Native.Nat.{ℕ, _+_, _%_}
 use native.Mathlib.Omega.{arith}
 use lib.ListN.{length}
 use lib.Dec.{ltb, leb, eqb}
 use Rattle.std.specs.shelf.Lists.{All}
-use Rattle.std.proofs.shelf.Tests.{or-parts, ltb-false, leb-false, not-false, eqb-true, and-parts}
-use Rattle.std.specs.Options.{isSome, valueOr}
+use Rattle.std.proofs.shelf.Tests.{ltb-false, leb-false, eqb-true}
+use Rattle.std.specs.Options.{isSome}
 use Rattle.std.specs.declared.option.Option.{Option}
 use Rattle.std.specs.declared.option.Option.the-variants.{Some, None}
-use Rattle.terms.specs.declared.limits.Limits.{Limits}
 use Rattle.terms.specs.declared.refusal.Refusal.{Refusal}
-use Rattle.terms.specs.declared.refusal.Refusal.the-variants.{NoPile, NoFriction}
+use Rattle.terms.specs.declared.refusal.Refusal.the-variants.{NoPile}
 use Rattle.terms.specs.Limits.{outside, Within, soil-limits, thickness-limits, pressure-limits, modulus-limits, ceiling-limits, max-layers, max-depth, category-limits, mark-limits, vibrodriven-limits, diameter-limits, perimeter-limits, area-limits, pile-modulus-limits, length-limits, tip-factor-limits, step-limits, load-limits, factor-limits}
-use Rattle.terms.specs.Chains.{when, or-else}
-use Rattle.terms.specs.Fractions.{Fraction, Near}
-use Rattle.terms.proofs.Chained.{or-none, when-none, or-free, when-free, within, within-free}
+use Rattle.terms.specs.Fractions.{Fraction}
+use Rattle.terms.proofs.Chained.{or-none, when-none, or-free, when-free, is-none, within, within-free}
 use Rattle.ground.specs.declared.layer.Layer.{Layer}
 use Rattle.ground.specs.Layers.{depth}
-use Rattle.ground.specs.Edits.{lay-refusal, amend-refusal, lift-refusal}
+use Rattle.ground.specs.Edits.{lay-refusal, amend-refusal}
+use Rattle.ground.proofs.Laying.{layable}
 use Rattle.pile.specs.declared.numbers.PileNumbers.{PileNumbers}
 use Rattle.pile.specs.Numbers.{pile-flaw}
-use Rattle.pile.specs.Tip.{needed-depth, shallow-refusal, half-height}
-use Rattle.pile.specs.Shaft.{ShaftPart, parts-above}
+use Rattle.pile.specs.Tip.{needed-depth}
+use Rattle.pile.specs.Shaft.{ShaftPart}
+use Rattle.pile.proofs.Bounds.{pile-bounds, layer-bounds}
 use Rattle.friction.specs.Rule.{Agrees}
 use Rattle.resistance.specs.Fetched.{said-of, unsaid-from}
-use Rattle.resistance.specs.Resistance.{resistance-by, exact-resistance, margin-of}
-use Rattle.resistance.specs.Judging.{question-flaw, site-refusal}
+use Rattle.resistance.specs.Resistance.{resistance-by}
+use Rattle.resistance.specs.Judging.{site-refusal}
 use Rattle.resistance.proofs.Margins.{resistance-near}
 use Rattle.calls.specs.declared.Question.{Question}
 use Rattle.calls.specs.declared.Answer.{Answer}
 use Rattle.calls.specs.declared.Answer.the-variants.{Refused}
-use Rattle.study.specs.Sites.{Site, Plain, change-refusal}
+use Rattle.study.specs.Sites.{Site, Plain}
 use Rattle.study.specs.Sites.Plain.{Lay, Amend, Lift, Drive, Judge}
 use Rattle.study.specs.Rules.{Meaning, by-pile, judge-refusal, resistance-on, Within-margin}
 use Rattle.story.specs.Allowed.{Takes-layer, Takes-amendment, Takes-pile, Takes-judging, Allowed}
@@ -41,20 +41,16 @@ use Rattle.story.specs.Story.{refusal-of, answer-of, Lawful, Granted, Denied}
 
 takes-layer : (s : Site) (l : Layer) → lay-refusal (s .layers) l ≡ None → Takes-layer s l
 takes-layer s l e =
-    let a = or-none _ _ e in
-    let b = or-none _ _ (a .0) in
-    let c = or-none _ _ (b .1) in
-    let d = or-none _ _ (c .1) in
-    let f = or-none _ _ (d .1) in
-    let g = or-none _ _ (a .1) in
+    let may = layable (s .layers) l e in
+    let bounds = layer-bounds l (may .fits) in
     record {
-      soil-fits = within soil-limits (l .soil) _ (b .0);
-      thickness-fits = within thickness-limits (l .thickness) _ (c .0);
-      pressure-fits = within pressure-limits (l .pressure) _ (d .0);
-      modulus-fits = within modulus-limits (l .modulus) _ (f .0);
-      ceiling-fits = within ceiling-limits (l .ceiling) _ (f .1);
-      room = leb-false max-layers (length (s .layers)) (when-none _ _ (g .0));
-      shallow = ltb-false max-depth (depth (s .layers) + l .thickness) (when-none _ _ (g .1));
+      soil-fits = bounds .soil;
+      thickness-fits = bounds .thickness;
+      pressure-fits = bounds .pressure;
+      modulus-fits = bounds .modulus;
+      ceiling-fits = bounds .ceiling;
+      room = may .few;
+      shallow = may .shallow;
     }
 
 layer-free : (s : Site) (l : Layer) → Takes-layer s l → lay-refusal (s .layers) l ≡ None
@@ -93,30 +89,20 @@ unmarked n h k = by-mark (eqb (n .mark) 1) refl
 
 takes-pile : (n : PileNumbers) → pile-flaw n ≡ None → Takes-pile n
 takes-pile n e =
-    let whole = or-none _ _ e in
-    let late = or-none _ _ (whole .1) in
-    let a = or-none _ _ (whole .0) in
-    let b = or-none _ _ (a .1) in
-    let c = or-none _ _ (b .1) in
-    let d = or-none _ _ (c .1) in
-    let f = or-none _ _ (d .1) in
-    let g = or-none _ _ (late .0) in
-    let h = or-none _ _ (g .1) in
-    let k = or-none _ _ (h .1) in
-    let o = or-none _ _ (k .1) in
+    let bounds = pile-bounds n (is-none (pile-flaw n) e) in
     record {
-      category-fits = within category-limits (n .category) _ (a .0);
-      mark-fits = within mark-limits (n .mark) _ (b .0);
-      diameter-fits = within diameter-limits (n .diameter) _ (c .0);
-      even = eqb-true (n .diameter % 2) 0 (not-false _ (when-none _ _ (d .0)));
-      perimeter-fits = within perimeter-limits (n .perimeter) _ (f .0);
-      tip-area-fits = within area-limits (n .«tip_area») _ (f .1);
-      section-fits = within area-limits (n .section) _ (g .0);
-      modulus-fits = within pile-modulus-limits (n .modulus) _ (h .0);
-      length-fits = within length-limits (n .length) _ (k .0);
-      tip-factor-fits = within tip-factor-limits (n .«tip_factor») _ (o .0);
-      step-fits = within step-limits (n .step) _ (o .1);
-      vibrodriven = marked n (when-none _ _ (late .1));
+      category-fits = bounds .category;
+      mark-fits = bounds .mark;
+      diameter-fits = bounds .diameter;
+      even = bounds .even;
+      perimeter-fits = bounds .perimeter;
+      tip-area-fits = bounds .tip-area;
+      section-fits = bounds .section;
+      modulus-fits = bounds .modulus;
+      length-fits = bounds .length;
+      tip-factor-fits = bounds .tip-factor;
+      step-fits = bounds .step;
+      vibrodriven = marked n (bounds .marked);
     }
 
 pile-free : (n : PileNumbers) → Takes-pile n → pile-flaw n ≡ None

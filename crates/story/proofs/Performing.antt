@@ -1,9 +1,8 @@
 -- What each call's contract says, as one step of a story.
 use mathlib.Core.Path.{_≡_, refl, ap, sym, subst, _∙_}
-use mathlib.Core.Logic.{_⊎_, inl, inr}
+use mathlib.Core.Logic.{inl, inr}
 use Prim.Native.Nat.{ℕ}
 use native.Mathlib.Omega.{arith}
-use Rattle.std.specs.declared.option.Option.{Option}
 use Rattle.std.specs.declared.option.Option.the-variants.{Some, None}
 use Rattle.std.specs.declared.result.Result.{Result}
 use Rattle.std.specs.declared.result.Result.the-variants.{Ok, Err}
@@ -14,9 +13,9 @@ use Rattle.calls.specs.declared.Answer.the-variants.{Done, Refused, Judged}
 use Rattle.calls.specs.declared.Judgement.{Judgement}
 use Rattle.calls.specs.declared.Question.{Question}
 use Rattle.study.specs.declared.holder.Study.{Study}
-use Rattle.study.specs.Sites.{Site, Plain, change-refusal, changed}
+use Rattle.study.specs.Sites.{Plain, change-refusal}
 use Rattle.study.specs.Sites.Plain.{Judge}
-use Rattle.study.specs.Rules.{Meaning, judge-refusal, judgement-on, Judged-on}
+use Rattle.study.specs.Rules.{Meaning, judge-refusal, Judged-on}
 use Rattle.study.specs.Views.{site-of, Obeys}
 use Rattle.story.specs.Story.{refusal-of, answer-of}
 use Rattle.story.specs.Says.{said}

@@ -1,21 +1,28 @@
 -- One call on in a story; a story as a tale; two tales as one.
-use mathlib.Core.Path.{_≡_, refl, ap, sym, subst, _∙_}
+use mathlib.Core.Path.{_≡_, ap, sym, subst, _∙_}
 use mathlib.Core.List.{List, [], _∷_, _++_, map}
-use Prim.Native.Nat.{ℕ, _+_, _≤_, _<_}
-use lib.ListN.{length, getD, set, take, drop}
+use Prim.Native.Nat.{ℕ, _+_, _<_}
+use lib.ListN.{length, getD, set, take}
 use Rattle.std.proofs.shelf.Lists.{map-more, take-more-set}
+use Rattle.std.specs.declared.option.Option.{Option}
+use Rattle.terms.specs.Fractions.{Fraction}
 use Rattle.friction.specs.Rule.{Agrees}
 use Rattle.calls.specs.declared.Call.{Call}
 use Rattle.calls.specs.declared.Answer.{Answer}
 use Rattle.study.specs.declared.holder.Study.{Study}
-use Rattle.study.specs.Sites.{Site, Plain, plain, bare}
+use Rattle.study.specs.Sites.{Site, Plain, plain}
 use Rattle.study.specs.Rules.{Meaning}
-use Rattle.study.specs.Views.{site-of, rule-of, law-of, Kept}
+use Rattle.study.specs.Views.{site-of, rule-of, Kept, meaning}
 use Rattle.story.specs.Story.{Step, Told}
 use Rattle.story.specs.Places.{Answered}
 use Rattle.story.specs.Tales.{Tale}
 use Rattle.story.proofs.Births.{born}
 use Rattle.story.proofs.Splits.{join, told-one, leaves, placed, lived}
+
+-- a study with the same rule means the same
+pub same-meaning : {R L : Type 0} (tolerance : ℕ) (fraction : R → ℕ → ℕ → ℕ → Option Fraction) (answer : R → ℕ → ℕ → ℕ → Option ℕ) (s t : Study R L) → rule-of t ≡ rule-of s
+    → meaning tolerance fraction answer t ≡ meaning tolerance fraction answer s
+same-meaning {R} tolerance fraction answer s t e = ap (λ (r : R). record { tolerance = tolerance; fraction = fraction r; answer = answer r }) e
 
 pub told-more : (m k : Meaning) → k ≡ m → (first s t : Site) (calls : List Call) (answers : List Answer) (i : ℕ) (d : Call) (a : Answer) → i < length calls → i < length answers
     → Told m first (map plain (take i calls)) (take i answers) s → Step k s (plain (getD calls i d)) a t

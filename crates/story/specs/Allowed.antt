@@ -11,7 +11,7 @@ use Rattle.ground.specs.declared.layer.Layer.{Layer}
 use Rattle.ground.specs.Layers.{depth}
 use Rattle.pile.specs.declared.numbers.PileNumbers.{PileNumbers}
 use Rattle.pile.specs.Tip.{needed-depth}
-use Rattle.pile.specs.Shaft.{ShaftPart, parts-above}
+use Rattle.pile.specs.Shaft.{parts-above}
 use Rattle.resistance.specs.Fetched.{said-of}
 use Rattle.calls.specs.declared.Question.{Question}
 use Rattle.study.specs.Sites.{Site, Plain}

@@ -1,6 +1,6 @@
 -- The curve of Frank and Zhao is at rest at 0, rises and is capped.
 use mathlib.Core.Path.{_≡_, ap, _∙_}
-use Prim.Native.Nat.{ℕ, _+_, _*_, _/_, _≤_, min}
+use Prim.Native.Nat.{ℕ, _*_, _/_, _≤_}
 use native.Mathlib.Nat.{mul-le-mul-left, mul-zero, zero-div}
 use native.Mathlib.Omega.{arith}
 use Rattle.terms.specs.Fractions.{floor}

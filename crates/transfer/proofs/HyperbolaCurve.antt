@@ -1,5 +1,5 @@
 -- The hyperbolic curve of a length above 0 is at rest at 0, rises and is capped.
-use mathlib.Core.Path.{_≡_, ap, _∙_}
+use mathlib.Core.Path.{ap, _∙_}
 use Prim.Native.Nat.{ℕ, _+_, _*_, _/_, _≤_, _<_}
 use native.Mathlib.Nat.{le-trans, div-mul-le-self, mul-le-mul-left, mul-zero, zero-div, le-of-mul-le-mul-right}
 use native.Mathlib.Omega.{arith}

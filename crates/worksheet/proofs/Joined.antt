@@ -2,21 +2,17 @@
 use mathlib.Core.Path.{_≡_, refl, sym, ap, subst, _∙_}
 use mathlib.Core.Logic.{_⊎_, inl, inr}
 use mathlib.Core.List.{List, [], _∷_, _++_, append-assoc}
-use Prim.Native.Nat.{ℕ, zero, suc, _+_, _-_, _<_, _≤_}
+use Prim.Native.Nat.{ℕ, suc, _+_, _-_, _<_}
 use native.Mathlib.Omega.{arith}
 use lib.ListN.{length, getD, length-append}
+use Rattle.std.proofs.shelf.Lists.{nil-from-length}
 use Rattle.friction.specs.Rule.{Agrees}
 use Rattle.study.specs.declared.holder.Study.{Study}
 use Rattle.study.specs.Rules.{Meaning}
 use Rattle.study.specs.Views.{rule-of}
-use Rattle.worksheet.specs.Cutting.{Line, Cut}
-use Rattle.worksheet.specs.Sheets.{Sheet}
+use Rattle.worksheet.specs.Cutting.{Cut}
 use Rattle.worksheet.specs.Pieces.{Whole-lines, Pieces-join}
 use Rattle.worksheet.proofs.Steps.{works-join}
-
-none-of : (xs : List ℕ) → length xs ≡ 0 → xs ≡ []
-none-of [] e = refl
-none-of (x ∷ xs) e = absurd (omega arith)
 
 -- what ends with a line feed has one at the end of each part that is not empty
 ends : (xs front : List ℕ) (r : ℕ) (rs : List ℕ) → xs ++ (r ∷ rs) ≡ front ++ (10 ∷ []) → (f : List ℕ) × (r ∷ rs ≡ f ++ (10 ∷ []))
@@ -42,7 +38,7 @@ not-whole x some solid (inr w) =
     solid (length (w .0)) (omega (arith, ap length (w .1), length-append (w .0) (10 ∷ []))) (ap (λ l. getD l (length (w .0)) 0) (w .1) ∙ last-is (w .0))
 
 pub cut-join : (a b : List ℕ) (xs ys : List (List ℕ)) → Whole-lines a → Cut a xs → Cut b ys → Cut (a ++ b) (xs ++ ys)
-cut-join a b [] ys w e k = subst (λ (t : List ℕ). Cut (t ++ b) ys) (sym (none-of a e)) k
+cut-join a b [] ys w e k = subst (λ (t : List ℕ). Cut (t ++ b) ys) (sym (nil-from-length a e)) k
 cut-join a b (x ∷ xs) ys w (rest, l, c) k = by-cut (l .cut) (λ v. cut-join rest b xs ys v c k)
   where
     by-cut : (a ≡ x ++ (10 ∷ rest)) ⊎ ((a ≡ x) × (rest ≡ [])) → (Whole-lines rest → Cut (rest ++ b) (xs ++ ys)) → Cut (a ++ b) (x ∷ (xs ++ ys))

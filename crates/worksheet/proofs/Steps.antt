@@ -1,14 +1,11 @@
 -- Lines worked one after the other: one more, and all.
 use mathlib.Core.Path.{_≡_, refl, sym, ap, subst, _∙_}
-use mathlib.Core.Logic.{_⊎_, inl, inr}
+use mathlib.Core.Logic.{inl, inr}
 use mathlib.Core.List.{List, [], _∷_, _++_, append-assoc, append-nil}
 use Prim.Native.Nat.{ℕ, _<_}
-use native.Mathlib.Omega.{arith}
 use lib.ListN.{length}
 use Rattle.std.specs.declared.option.Option.{Option}
 use Rattle.friction.specs.Rule.{Agrees}
-use Rattle.terms.specs.declared.refusal.Refusal.{Refusal}
-use Rattle.calls.specs.declared.Call.{Call}
 use Rattle.calls.specs.declared.Answer.{Answer}
 use Rattle.calls.specs.declared.Answer.the-variants.{Refused}
 use Rattle.lines.specs.declared.letter.Letter.{Letter}
@@ -16,9 +13,9 @@ use Rattle.lines.specs.Print.{answer-text}
 use Rattle.study.specs.declared.holder.Study.{Study}
 use Rattle.study.specs.Sites.{Plain, plain}
 use Rattle.study.specs.Rules.{Meaning}
-use Rattle.study.specs.Views.{site-of, Kept}
+use Rattle.study.specs.Views.{site-of}
 use Rattle.story.specs.Story.Told.{over}
-use Rattle.story.specs.Tales.{Performs, Tale}
+use Rattle.story.specs.Tales.{Tale}
 use Rattle.story.proofs.Splits.{told-one}
 use Rattle.story.proofs.Telling.{tale, tale-join}
 use Rattle.worksheet.specs.Cutting.{Line, Cut}

@@ -1,5 +1,4 @@
 -- The lines of a sheet, the calls that they say, the answers to these, and the text that is written.
-use mathlib.Core.Path.{_≡_}
 use mathlib.Core.List.{List, [], _∷_, _++_}
 use Prim.Native.Nat.{ℕ}
 use Rattle.std.specs.Options.{Cases}

@@ -1,7 +1,7 @@
 -- What working a sheet promises: its lines, cut from the text; the calls that they say and their answers, in the law of every story; and the output, line by line.
 use mathlib.Core.Path.{_≡_}
 use mathlib.Core.Logic.{_⊎_}
-use mathlib.Core.List.{List, [], _∷_, _++_}
+use mathlib.Core.List.{List, _++_}
 use Prim.Native.Nat.{ℕ, _<_}
 use lib.ListN.{length}
 use Rattle.terms.specs.declared.refusal.Refusal.{Refusal}

@@ -1,4 +1,3 @@
-use borrow.Author.Needs.{needs}
 use native.Mathlib.Omega.{arith}
 use mathlib.Core.Path.{_≡_, refl, sym, ap, subst, _∙_}
 use mathlib.Core.List.{map}
@@ -6,11 +5,10 @@ use Prim.Native.Nat.{ℕ, _+_, _<_}
 use lib.ListN.{length, take, drop}
 use Rattle.std.proofs.shelf.Lists.{drop-set-lt, drop-drop}
 use Rattle.study.specs.Sites.{plain}
-use Rattle.study.specs.Rules.{Meaning}
 use Rattle.study.specs.Views.{site-of, rule-of, meaning}
-use Rattle.story.specs.Story.{Step, Told}
+use Rattle.story.specs.Story.{Told}
 use Rattle.story.specs.Story.Told.{over}
-use Rattle.story.proofs.Telling.{told-more, tale}
+use Rattle.story.proofs.Telling.{same-meaning, told-more, tale}
 use Rattle.story.proofs.tell.Needs as need
 
 pub loop-i-holds : need.loop-i-holds
@@ -24,7 +22,7 @@ loop-i-again g c =
     let i = c .loop-i .i in
     let was = c .loop-i .answers in
     let told = c .perform .ensures in
-    let same : means (c .loop-i .study) ≡ means s = ap (λ (r : g .R .Denot). record { tolerance = g .R·FrictionRule .tolerance; fraction = g .R·FrictionRule .fraction r; answer = g .R·FrictionRule .answer r }) (inv .0 .0) in
+    let same : means (c .loop-i .study) ≡ means s = same-meaning (g .R·FrictionRule .tolerance) (g .R·FrictionRule .fraction) (g .R·FrictionRule .answer) s (c .loop-i .study) (inv .0 .0) in
     let room : i < length was = omega arith in
     let more : i < length (c .args .calls .now) = omega arith in (
       (told .kept .0 ∙ inv .0 .0, told .kept .1 ∙ inv .0 .1),

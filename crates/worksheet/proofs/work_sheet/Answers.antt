@@ -1,11 +1,9 @@
 use native.Mathlib.Omega.{arith}
-use mathlib.Core.Path.{_≡_, refl, ap}
-use Prim.Native.Nat.{ℕ, _+_, _*_, _≤_, _<_}
-use lib.ListN.{length}
-use Rattle.std.specs.Of.Vec.{vec-items, vec-len, vec-cap}
-use Rattle.study.specs.Rules.{Meaning}
+use mathlib.Core.Path.{_≡_, refl}
+use Rattle.std.specs.Of.Vec.{vec-items}
 use Rattle.study.specs.Views.{meaning, rule-of}
-use Rattle.worksheet.proofs.Steps.{Sofar, none-yet, one-more, all-done, stopped}
+use Rattle.story.proofs.Telling.{same-meaning}
+use Rattle.worksheet.proofs.Steps.{none-yet, one-more, all-done}
 use Rattle.worksheet.proofs.work_sheet.Needs as need
 
 pub loop-rest-holds : need.loop-rest-holds
@@ -22,7 +20,7 @@ loop-rest-again g c =
     let after = c .split-line .result .1 .now in
     let told = c .in-rest .ensures tt in
     let same : means (c .loop-rest .study) ≡ means (c .args .study .now) =
-    ap (λ (r : g .R .Denot). record { tolerance = g .R·FrictionRule .tolerance; fraction = g .R·FrictionRule .fraction r; answer = g .R·FrictionRule .answer r }) (inv .0 .works .tale .kept .0) in (
+    same-meaning (g .R·FrictionRule .tolerance) (g .R·FrictionRule .fraction) (g .R·FrictionRule .answer) (c .args .study .now) (c .loop-rest .study) (inv .0 .works .tale .kept .0) in (
       one-more means (λ s. g .R·FrictionRule·met .within (rule-of s)) (c .args .study .now) (c .loop-rest .study) (c .work-line .last .study) (c .args .text .now) rest after line (vec-items (c .args .out .now)) (vec-items (c .loop-rest .out)) (vec-items (c .work-line .last .out)) same (inv .0) (c .split-line .ensures .line) (told .cases),
       omega (arith, told .capacity, inv .1),
       omega (arith, told .len, inv .2, c .split-line .ensures .less),

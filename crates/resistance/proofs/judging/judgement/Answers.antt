@@ -1,5 +1,4 @@
 use native.Mathlib.Omega.{arith}
-use borrow.Author.Needs.{needs}
 use Rattle.terms.specs.Limits.{factor-limits}
 use Rattle.terms.proofs.Chained.{or-none, within}
 use Rattle.resistance.proofs.Sizes.{quotient-most}
