@@ -1,4 +1,6 @@
 // What is said to a study and what it answers, as plain data.
+#![tactic(auto)]
+
 use ground::layer::Layer;
 use pile::numbers::PileNumbers;
 use terms::refusal::Refusal;

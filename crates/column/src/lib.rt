@@ -1,4 +1,6 @@
 // A pile as a column of slices: what a settlement stands on. Balanced columns, both marches and the bracket that they give are in specs/.
+#![tactic(auto)]
+
 ghost use Rattle.column.specs.Bracket.{BracketStands, EndsRise};
 
 // What a column needs to know of the pile and of the layer that bears it.

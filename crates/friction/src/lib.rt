@@ -1,4 +1,6 @@
 // Friction rules: the unit shaft friction of a layer, asked with soil, category of the pile and net limit pressure.
+#![tactic(auto)]
+
 pub mod cone;
 pub mod pressuremeter;
 pub mod rule;

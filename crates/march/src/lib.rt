@@ -1,4 +1,6 @@
 // Both marches up the shaft of a pile, from a displacement of its tip to the node at its head.
+#![tactic(auto)]
+
 ghost use Rattle.std.specs.Prelude.{◌≡◌, ◌*◌, ◌<◌, ◌≤◌, min, []};
 ghost use Rattle.terms.specs.Limits.{Within, step_limits};
 ghost use Rattle.column.specs.Case.{case_of};

@@ -1,4 +1,6 @@
 // One pile in axial compression: its numbers, the averaging under its tip, and its resistance over a list of frictions. It knows no friction rule.
+#![tactic(auto)]
+
 pub mod driven;
 pub mod frictions;
 pub mod numbers;

@@ -1,4 +1,6 @@
 // The settlement of a pile under a load, as a bracket in which every balanced column that carries it lies.
+#![tactic(auto)]
+
 ghost use Rattle.std.specs.Prelude.{◌≡◌, true, None, MatchOption};
 ghost use Rattle.terms.specs.Chains.{Answers, or_else};
 ghost use Rattle.ground.specs.Table.{strata};

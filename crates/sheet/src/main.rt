@@ -1,4 +1,6 @@
 // The sheet program: lines of the standard input told to one study, with the pressuremeter rule and the law of Frank and Zhao. The answer to a line is written before the next line is read.
+#![tactic(auto)]
+
 use friction::pressuremeter::Pressuremeter;
 use std::io::{BufRead, BufReader, Write};
 use study::holder::Study;

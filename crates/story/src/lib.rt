@@ -1,4 +1,6 @@
 // A story: a list of calls told to a study, and its answers. The contract of `tell` is the law that every story obeys.
+#![tactic(auto)]
+
 ghost use Rattle.std.specs.Prelude.{◌≡◌};
 ghost use Rattle.study.specs.Sites.{plain};
 ghost use Rattle.study.specs.Views.{meaning};

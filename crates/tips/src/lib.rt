@@ -1,4 +1,6 @@
 // The two tip displacements of a load: where the marches from the tip end just below it and just above it.
+#![tactic(auto)]
+
 ghost use Rattle.std.specs.Prelude.{◌≡◌, ℕ, ◌≤◌, true, MatchOption};
 ghost use Rattle.column.specs.Tips.{tip_range, IsLowerTip, IsUpperTip, no_march_above};
 ghost use Rattle.shaft.specs.Views.{body_of, case_over};

@@ -1,4 +1,6 @@
 // Transfer laws: how the soil resists a displacement of the pile, on its shaft and at its tip.
+#![tactic(auto)]
+
 ghost use Rattle.std.specs.Prelude.{◌≡◌, ◌≤◌};
 ghost use Rattle.terms.specs.Limits.{nearest, unit_resistance_limits};
 ghost use Rattle.transfer.specs.Curve.{Curve, Rest, Rising, Capped};

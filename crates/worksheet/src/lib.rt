@@ -1,4 +1,6 @@
 // A worksheet: lines told to a study one after the other, and their answers as lines.
+#![tactic(auto)]
+
 ghost use Rattle.std.specs.Prelude.{◌≡◌, ◌+◌, ◌*◌, ◌<◌, ◌≤◌, true, [], ◌∷◌, length, is_ok, vec_len, vec_capacity, MatchResult};
 ghost use Rattle.lines.specs.Print.{longest_answer};
 ghost use Rattle.study.specs.Views.{meaning};
