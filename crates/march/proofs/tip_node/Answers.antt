@@ -4,8 +4,8 @@ use Rattle.march.proofs.Fitting.{asked_is, tip_lower, tip_upper}
 use Rattle.march.proofs.tip_node.Goals as goal
 use Rattle.march.proofs.tip_node.Goals.{in-Lower, in-Upper}
 
-pub overflow-mul-result : goal.overflow-mul-result
-overflow-mul-result g c =
+pub overflow_mul-result : goal.overflow_mul-result
+overflow_mul-result g c =
     let b = c.args.body.now in
     let cap : c.match-side.met ≤ b.tip_resistance =
     elim c.match-side.branch [

@@ -26,7 +26,7 @@ returns-in-Err-new g c =
     let ls = strata c.args.ground.now in
     let n = numbers_of c.args.pile.now in
     let fetched = c.in-Ok.ensures in
-    let asked : load_flaw load ≡ None = sym c.load_flaw.ensures ∙ c.in-default.is in
+    let asked : load_flaw load ≡ None = sym c.load_flaw.ensures ∙ c.in_default.is in
     let refused : shaft_refusal ls n (shaft_frictions answer ls n) ≡ Some c.in-Err-new.refusal = sym (ap (λ (qs : List ℕ). shaft_refusal ls n qs) fetched.1) ∙ c.in-Err-new.ensures in
     by_shaft (load_flaw load) (shallow_refusal ls n) (unsaid_from answer n 0 (parts_above n.length ls)) (when (overstrained ls n (shaft_frictions answer ls n)) OverstrainedPile)
     (when (no_march_above (pile_case answer shaft tip ls n) (range_on ls n) (micronewtons load)) LoadNotCarried) c.in-Err-new.refusal asked fetched.0 refused
@@ -43,7 +43,7 @@ returns-in-Some-settlement g c =
     let n = numbers_of c.args.pile.now in
     let fetched = c.in-Ok.ensures in
     let made = c.in-Ok-new.ensures in
-    let asked : load_flaw load ≡ None = sym c.load_flaw.ensures ∙ c.in-default.is in
+    let asked : load_flaw load ≡ None = sym c.load_flaw.ensures ∙ c.in_default.is in
     let stands : shaft_refusal ls n (shaft_frictions answer ls n) ≡ None = sym (ap (λ (qs : List ℕ). shaft_refusal ls n qs) fetched.1) ∙ made.0 in
     let free = or_none (shallow_refusal ls n) (when (overstrained ls n (shaft_frictions answer ls n)) OverstrainedPile) stands in
     let right = settled answer shaft tip (record { rest = m.shaft_rest law; rising = m.shaft_rising law; capped = m.shaft_capped law })

@@ -13,8 +13,8 @@ returns-then-above-floor g c =
     let x = c.args.shaft.now in
     let col = case_over (t.shaft_curve law) (t.tip_curve law) x in
     let T = tip_range (body_of x) in
-    let range = c.tip-range-range.result in
-    let same : range ≡ T = c.tip-range-range.ensures in
+    let range = c.tip_range-range.result in
+    let same : range ≡ T = c.tip_range-range.ensures in
     none c.args.side (sound x (m.shaft_rest law) (m.shaft_rising law) (m.shaft_capped law) (m.tip_rest law) (m.tip_rising law) (m.tip_capped law))
     (ended c.args.side col T range c.march-above.result c.march-above.ensures (omega arith) ∙ ap (end_by c.args.side col) same) c.if-above-floor.true
 

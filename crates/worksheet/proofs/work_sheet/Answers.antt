@@ -14,14 +14,14 @@ loop-rest-preserved g c =
     let means = meaning g.R.FrictionRule.tolerance g.R.FrictionRule.fraction g.R.FrictionRule.answer in
     let inv = c.loop-rest.invariant in
     let rest = c.loop-rest.rest.now in
-    let line = c.split-line.result.0.now in
-    let after = c.split-line.result.1.now in
-    let told = c.in-default.ensures in
+    let line = c.split_line.result.0.now in
+    let after = c.split_line.result.1.now in
+    let told = c.in_default.ensures in
     let same : means c.loop-rest.study ≡ means c.args.study.now =
     same_meaning g.R.FrictionRule.tolerance g.R.FrictionRule.fraction g.R.FrictionRule.answer c.args.study.now c.loop-rest.study inv.0.works.tale.kept.0 in (
-      one_more means (λ s. g.met.R.FrictionRule.within (rule_of s)) c.args.study.now c.loop-rest.study c.work-line.new.study c.args.text.now rest after line (vec_items c.args.out.now) (vec_items c.loop-rest.out) (vec_items c.work-line.new.out) same inv.0 c.split-line.ensures.line told.cases,
+      one_more means (λ s. g.met.R.FrictionRule.within (rule_of s)) c.args.study.now c.loop-rest.study c.work_line.new.study c.args.text.now rest after line (vec_items c.args.out.now) (vec_items c.loop-rest.out) (vec_items c.work_line.new.out) same inv.0 c.split_line.ensures.line told.cases,
       omega (arith, told.capacity, inv.1),
-      omega (arith, told.len, inv.2, c.split-line.ensures.less),
+      omega (arith, told.len, inv.2, c.split_line.ensures.less),
     )
 
 pub returns : goal.returns

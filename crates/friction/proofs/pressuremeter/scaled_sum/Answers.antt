@@ -11,11 +11,11 @@ pub loop-k-init : goal.loop-k-init
 unfolding horner
 loop-k-init c = (omega arith, refl)
 
-pub overflow-mul-h : goal.overflow-mul-h
-overflow-mul-h c = let k = product c.args.x c.loop-k.k c.loop-k.h c.requires c.loop-k.invariant.0 c.loop-k.invariant.1 in search rules
+pub overflow_mul-h : goal.overflow_mul-h
+overflow_mul-h c = let k = product c.args.x c.loop-k.k c.loop-k.h c.requires c.loop-k.invariant.0 c.loop-k.invariant.1 in search rules
 
-pub overflow-add-h : goal.overflow-add-h
-overflow-add-h c =
+pub overflow_add-h : goal.overflow_add-h
+overflow_add-h c =
     let k = product c.args.x c.loop-k.k c.loop-k.h c.requires c.loop-k.invariant.0 c.loop-k.invariant.1 in
     let d = div-le_self (c.args.x * c.loop-k.h) (10000 * c.loop-k.k) in
     search rules

@@ -3,19 +3,19 @@ use Rattle.column.specs.Case.{case_of}
 use Rattle.march.proofs.Fitting.{fits, fits_asked, lower_same}
 use Rattle.march.proofs.slice.lower_over.Goals as goal
 
-pub overflow-mul-displacement : goal.overflow-mul-displacement
-overflow-mul-displacement g c = omega (arith, (fits c.args.body.now c.args.slice c.args.under c.args.slice.friction (le_refl _) c.requires.0 c.requires.1).product)
+pub overflow_mul-displacement : goal.overflow_mul-displacement
+overflow_mul-displacement g c = omega (arith, (fits c.args.body.now c.args.slice c.args.under c.args.slice.friction (le_refl _) c.requires.0 c.requires.1).product)
 
-pub overflow-add-displacement : goal.overflow-add-displacement
-overflow-add-displacement g c = omega (arith, (fits c.args.body.now c.args.slice c.args.under c.args.slice.friction (le_refl _) c.requires.0 c.requires.1).moved)
+pub overflow_add-displacement : goal.overflow_add-displacement
+overflow_add-displacement g c = omega (arith, (fits c.args.body.now c.args.slice c.args.under c.args.slice.friction (le_refl _) c.requires.0 c.requires.1).moved)
 
-pub overflow-mul-result : goal.overflow-mul-result
-overflow-mul-result g c =
+pub overflow_mul-result : goal.overflow_mul-result
+overflow_mul-result g c =
     let law = c.args.law.now in
     omega (arith, (fits_asked (g.L.TransferLaw.shaft_curve law) (g.met.L.TransferLaw.shaft_capped law) c.args.body.now c.args.slice c.args.under c.requires.2 c.shaft-met.ensures.value c.requires.0 c.requires.1).rubbed)
 
-pub overflow-add-result : goal.overflow-add-result
-overflow-add-result g c =
+pub overflow_add-result : goal.overflow_add-result
+overflow_add-result g c =
     let law = c.args.law.now in
     omega (arith, (fits_asked (g.L.TransferLaw.shaft_curve law) (g.met.L.TransferLaw.shaft_capped law) c.args.body.now c.args.slice c.args.under c.requires.2 c.shaft-met.ensures.value c.requires.0 c.requires.1).force)
 

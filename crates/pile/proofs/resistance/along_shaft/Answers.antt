@@ -4,8 +4,8 @@ use Rattle.pile.proofs.Bounds.{moderate_at}
 use Rattle.pile.proofs.Shafts.{shaft_again, shaft_end, part_size, shaft_size}
 use Rattle.pile.proofs.resistance.along_shaft.Goals as goal
 
-pub overflow-mul-sum-in-loop-i : goal.overflow-mul-sum-in-loop-i
-overflow-mul-sum-in-loop-i c =
+pub overflow_mul-sum-in-loop-i : goal.overflow_mul-sum-in-loop-i
+overflow_mul-sum-in-loop-i c =
     let qs = c.args.frictions.now in
     let moderate = moderate_at qs c.loop-i.i 0 (omega (arith, c.min-i-end.ensures, c.loop-i-test.true)) c.requires.2 in
     let h = c.min-height.result in
@@ -14,8 +14,8 @@ overflow-mul-sum-in-loop-i c =
     let part = part_size c.args.perimeter h _ left (left - h) c.loop-i.sum _ moderate split c.loop-i.invariant.2 in
     omega (arith, part, shaft_size c.args.perimeter c.args.length c.requires.0 c.requires.1)
 
-pub overflow-add-sum : goal.overflow-add-sum
-overflow-add-sum c =
+pub overflow_add-sum : goal.overflow_add-sum
+overflow_add-sum c =
     let qs = c.args.frictions.now in
     let moderate = moderate_at qs c.loop-i.i 0 (omega (arith, c.min-i-end.ensures, c.loop-i-test.true)) c.requires.2 in
     let h = c.min-height.result in

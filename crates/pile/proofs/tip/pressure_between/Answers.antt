@@ -10,17 +10,17 @@ returns-then-to-from c = sym (integral_empty (strata c.args.ground.now) c.args.f
 pub loop-layer-init : goal.loop-layer-init
 loop-layer-init c = (omega arith, omega arith, omega arith)
 
-pub overflow-sub-sum : goal.overflow-sub-sum
-overflow-sub-sum c = omega (arith, c.min.ensures, c.min-in-loop-layer.ensures, c.loop-layer.invariant.0)
+pub overflow_sub-sum : goal.overflow_sub-sum
+overflow_sub-sum c = omega (arith, c.min.ensures, c.min-in-loop-layer.ensures, c.loop-layer.invariant.0)
 
-pub overflow-mul-sum : goal.overflow-mul-sum
-overflow-mul-sum c =
+pub overflow_mul-sum : goal.overflow_mul-sum
+overflow_mul-sum c =
     let xs = c.layers-layer-items.result.now in
     let small = integral_size xs c.loop-layer.layer-index c.loop-layer.sum c.min.result c.min-in-loop-layer.result c.loop-layer-test.true c.layers-layer-items.ensures.fit (omega (arith, c.min.ensures)) c.loop-layer.invariant.2 in
     omega (arith, small, c.layers-layer-items.ensures.shallow)
 
-pub overflow-add-sum : goal.overflow-add-sum
-overflow-add-sum c =
+pub overflow_add-sum : goal.overflow_add-sum
+overflow_add-sum c =
     let xs = c.layers-layer-items.result.now in
     let small = integral_size xs c.loop-layer.layer-index c.loop-layer.sum c.min.result c.min-in-loop-layer.result c.loop-layer-test.true c.layers-layer-items.ensures.fit (omega (arith, c.min.ensures)) c.loop-layer.invariant.2 in
     omega (arith, small, c.layers-layer-items.ensures.shallow)
@@ -31,8 +31,8 @@ loop-layer-preserved c =
     let i = c.loop-layer.layer-index in
     let inside = c.loop-layer-test.true in
     let inv = c.loop-layer.invariant in (
-      omega (arith, inv.0, c.saturating-sub-above.ensures, c.saturating-sub-below.ensures),
-      integral_again xs i c.loop-layer.above c.loop-layer.below c.loop-layer.sum (integral xs c.args.from c.args.to) c.min.result c.min-in-loop-layer.result c.saturating-sub-above.result c.saturating-sub-below.result inside inv.0 c.min.ensures c.min-in-loop-layer.ensures c.saturating-sub-above.ensures c.saturating-sub-below.ensures inv.1,
+      omega (arith, inv.0, c.saturating_sub-above.ensures, c.saturating_sub-below.ensures),
+      integral_again xs i c.loop-layer.above c.loop-layer.below c.loop-layer.sum (integral xs c.args.from c.args.to) c.min.result c.min-in-loop-layer.result c.saturating_sub-above.result c.saturating_sub-below.result inside inv.0 c.min.ensures c.min-in-loop-layer.ensures c.saturating_sub-above.ensures c.saturating_sub-below.ensures inv.1,
       integral_size xs i c.loop-layer.sum c.min.result c.min-in-loop-layer.result inside c.layers-layer-items.ensures.fit (omega (arith, c.min.ensures)) inv.2,
     )
 

@@ -20,18 +20,18 @@ returns-then-left-eq0 g c =
     let none : parts_above c.loop-layer.left (drop c.loop-layer.layer-index xs) ≡ _ = ap (λ (d : ℕ). parts_above d (drop c.loop-layer.layer-index xs)) c.if-left-eq0.true ∙ no_parts (drop c.loop-layer.layer-index xs) in
     all_fetched (g.R.FrictionRule.answer c.args.rule.now) c.numbers-numbers.result (numbers_of c.args.pile.now) xs (strata c.args.ground.now) (friction_list c.loop-layer.frictions) c.loop-layer.index _ c.numbers-numbers.ensures.value c.layers-layer-items.ensures.value none c.loop-layer.invariant.2 c.loop-layer.invariant.3
 
-pub returns-in-default : goal.returns-in-default
-returns-in-default g c =
+pub returns-in_default : goal.returns-in_default
+returns-in_default g c =
     let answer = g.R.FrictionRule.answer c.args.rule.now in
     let xs = c.layers-layer-items.result.now in
     let r = c.numbers-numbers.result in
     let k = c.loop-layer.index in
     let more : 0 < c.loop-layer.left = omega arith in
     at_site (λ m ys. unsaid_from answer m 0 (parts_above m.length ys) ≡ Some (NoFriction k)) r (numbers_of c.args.pile.now) xs (strata c.args.ground.now) c.numbers-numbers.ensures.value c.layers-layer-items.ensures.value
-    (sym c.loop-layer.invariant.3 ∙ refused_here answer r xs c.loop-layer.layer-index c.loop-layer-test.true c.loop-layer.left more k (sym c.in-default.ensures))
+    (sym c.loop-layer.invariant.3 ∙ refused_here answer r xs c.loop-layer.layer-index c.loop-layer-test.true c.loop-layer.left more k (sym c.in_default.ensures))
 
-pub friction-of-requires : goal.friction-of-requires
-friction-of-requires g c =
+pub friction_of-requires : goal.friction_of-requires
+friction_of-requires g c =
     let xs = c.layers-layer-items.result.now in
     let i = c.loop-layer.layer-index in
     let bounds = layer_bounds (get_or xs i no_layer) (sound_at xs i no_layer c.loop-layer-test.true c.layers-layer-items.ensures.fit) in
@@ -56,7 +56,7 @@ loop-layer-preserved g c =
     let all : next ++ frictions_of answer r (parts_above (c.loop-layer.left - (get_or xs i no_layer).thickness) (drop (i + 1) xs)) ≡ whole =
     one_on answer r xs i taken c.loop-layer.left more c.in-Some.answer was next whole a (end ∙ ap (λ (x : ℕ). was ++ x ∷ []) c.friction_of.ensures.value) inv.2 in
     let said = sym (answered_here answer r xs i taken c.loop-layer.left more c.loop-layer.index c.in-Some.answer a) ∙ inv.3 in
-    let left = sym c.saturating-sub-left.ensures in (
+    let left = sym c.saturating_sub-left.ensures in (
       omega arith,
       omega (arith, ap length end, length_push was q),
       subst (λ (d : ℕ). next ++ frictions_of answer r (parts_above d (drop (i + 1) xs)) ≡ whole) left all,

@@ -4,8 +4,8 @@ use Rattle.terms.proofs.Chained.{or_none, within}
 use Rattle.resistance.proofs.Sizes.{quotient_most}
 use Rattle.resistance.proofs.judging.judgement.Goals as goal
 
-pub overflow-mul-capacity : goal.overflow-mul-capacity
-overflow-mul-capacity c =
+pub overflow_mul-capacity : goal.overflow_mul-capacity
+overflow_mul-capacity c =
     let q = c.args.question.now in
     let factors = or_none _ _ (or_none _ _ c.requires.1).1 in
     let model = within factor_limits q.model_factor _ factors.0 in

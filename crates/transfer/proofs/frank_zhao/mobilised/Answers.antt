@@ -16,13 +16,13 @@ flat_fits : (q width : ℕ)
     → q * width ≤ unit_resistance_limits.most * diameter_limits.most
 flat_fits q width hq hw = mul-le-mul hq hw
 
-pub overflow-mul-steep-2 : goal.overflow-mul-steep-2
-overflow-mul-steep-2 c =
-    let k = steep_fits c.args.slope c.take-nearest-modulus.result c.take-nearest-displacement.result c.requires (omega arith) (omega arith) in
+pub overflow_mul-steep-2 : goal.overflow_mul-steep-2
+overflow_mul-steep-2 c =
+    let k = steep_fits c.args.slope c.take_nearest-modulus.result c.take_nearest-displacement.result c.requires (omega arith) (omega arith) in
     search rules
 
-pub overflow-add-second : goal.overflow-add-second
-overflow-add-second c =
-    let k = steep_fits c.args.slope c.take-nearest-modulus.result c.take-nearest-displacement.result c.requires (omega arith) (omega arith) in
-    let j = flat_fits c.take-nearest-resistance.result c.take-nearest-divisor.result (omega arith) (omega arith) in
+pub overflow_add-second : goal.overflow_add-second
+overflow_add-second c =
+    let k = steep_fits c.args.slope c.take_nearest-modulus.result c.take_nearest-displacement.result c.requires (omega arith) (omega arith) in
+    let j = flat_fits c.take_nearest-resistance.result c.take_nearest-divisor.result (omega arith) (omega arith) in
     search rules

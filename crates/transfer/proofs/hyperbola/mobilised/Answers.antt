@@ -7,6 +7,6 @@ use Rattle.transfer.proofs.hyperbola.mobilised.Goals as goal
 
 pub returns : goal.returns
 returns c =
-    let m = c.args.curve-length in
+    let m = c.args.curve_length in
     let h = asked_capped (hyperbola m) (hyperbola_capped m c.requires.0) 0 0 c.args.resistance 0 c.args.displacement in
     search rules

@@ -7,18 +7,18 @@ use Rattle.friction.proofs.pressuremeter.PressuremeterFrictionRule.ask.Goals as 
 amount : (soil category a line : ℕ) → Some a ≡ alpha_of soil category → line ≤ 180000 → a * line ≤ 380 * 180000
 amount soil category a line e h = mul-le-mul (alpha_small soil category a (sym e)) h
 
-pub overflow-mul-alpha : goal.overflow-mul-alpha
-overflow-mul-alpha c =
-    let k = amount c.args.soil c.args.category c.in-ok-alpha.alpha c.line-at.result c.in-ok-alpha.ensures c.line-at.ensures.1 in
+pub overflow_mul-alpha : goal.overflow_mul-alpha
+overflow_mul-alpha c =
+    let k = amount c.args.soil c.args.category c.in_ok-alpha.alpha c.line_at.result c.in_ok-alpha.ensures c.line_at.ensures.1 in
     search rules
 
-pub rounded-down-requires : goal.rounded-down-requires
-rounded-down-requires c =
-    (amount c.args.soil c.args.category c.in-ok-alpha.alpha c.line-at.result c.in-ok-alpha.ensures c.line-at.ensures.1, c.scaled-sum-sum.ensures.2, c.scaled-sum-sum.ensures.1)
+pub rounded_down-requires : goal.rounded_down-requires
+rounded_down-requires c =
+    (amount c.args.soil c.args.category c.in_ok-alpha.alpha c.line_at.result c.in_ok-alpha.ensures c.line_at.ensures.1, c.scaled_sum-sum.ensures.2, c.scaled_sum-sum.ensures.1)
 
 pub returns : goal.returns
 returns c =
-    let s : Some c.rounded-down.result ≡ pressuremeter_answer c.args.soil c.args.category c.args.pressure = search rules in
+    let s : Some c.rounded_down.result ≡ pressuremeter_answer c.args.soil c.args.category c.args.pressure = search rules in
     record {
       same = s;
       near =

@@ -4,8 +4,8 @@ use Rattle.ground.specs.Edits.{revised}
 use Rattle.ground.proofs.Tables.{depth_set, sound_set, sound_at, fit_revised}
 use Rattle.ground.proofs.table.Ground.amend.Goals as goal
 
-pub invariant-of-self : goal.invariant-of-self
-invariant-of-self c =
+pub invariant_of-self : goal.invariant_of-self
+invariant_of-self c =
     let before = c.args.self.now in
     let ls = vec_items before.layers in
     let old = c.index-old.result.now in

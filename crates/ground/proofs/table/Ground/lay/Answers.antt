@@ -5,13 +5,13 @@ use Rattle.ground.proofs.Tables.{depth_push, sound_push}
 use Rattle.ground.proofs.Laying.{layable}
 use Rattle.ground.proofs.table.Ground.lay.Goals as goal
 
-pub invariant-of-self : goal.invariant-of-self
-invariant-of-self c =
+pub invariant_of-self : goal.invariant_of-self
+invariant_of-self c =
     let old = c.args.self.now in
     let ls = vec_items old.layers in
-    let clear : lay_refusal ls c.args.layer ≡ None = ap (λ above. lay_refusal above c.args.layer) (sym c.layers.ensures.value) ∙ sym c.in-default.ensures in
+    let clear : lay_refusal ls c.args.layer ≡ None = ap (λ above. lay_refusal above c.args.layer) (sym c.layers.ensures.value) ∙ sym c.in_default.ensures in
     let here = layable ls c.args.layer clear in
-    let left = c.push-reserved.ensures.items in (
+    let left = c.push_reserved.ensures.items in (
       search rules,
       (
         search rules,

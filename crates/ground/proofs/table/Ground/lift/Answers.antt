@@ -3,8 +3,8 @@ use Rattle.ground.specs.Layers.{depth, sound}
 use Rattle.ground.proofs.Tables.{depth_take, sound_take}
 use Rattle.ground.proofs.table.Ground.lift.Goals as goal
 
-pub invariant-of-self : goal.invariant-of-self
-invariant-of-self c =
+pub invariant_of-self : goal.invariant_of-self
+invariant_of-self c =
     let old = c.args.self.now in
     let left = c.pop.ensures.rest in (
       omega (arith, c.pop.ensures.len),

@@ -5,12 +5,12 @@ use Rattle.ground.proofs.table.Ground.replace.Goals as goal
 
 pub refill-requires : goal.refill-requires
 refill-requires c =
-    let all = all_layable [] c.args.layers.now (omega arith) (omega arith) (sym c.in-default.ensures) in
+    let all = all_layable [] c.args.layers.now (omega arith) (omega arith) (sym c.in_default.ensures) in
     omega (arith, all.few, c.args.self.now.room)
 
-pub invariant-of-self : goal.invariant-of-self
-invariant-of-self c =
-    let all = all_layable [] c.args.layers.now (omega arith) (omega arith) (sym c.in-default.ensures) in
+pub invariant_of-self : goal.invariant_of-self
+invariant_of-self c =
+    let all = all_layable [] c.args.layers.now (omega arith) (omega arith) (sym c.in_default.ensures) in
     let left = c.refill.ensures.items in (
       omega (arith, all.few, c.refill.ensures.len),
       (

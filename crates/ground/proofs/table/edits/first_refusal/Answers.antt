@@ -15,7 +15,7 @@ pub loop-i-preserved : goal.loop-i-preserved
 loop-i-preserved c =
     let xs = c.args.layers.now in
     let i = c.loop-i.i in
-    let clear = sym c.in-default.ensures in
+    let clear = sym c.in_default.ensures in
     let here = layable (take i xs) (get_or xs i no_layer) clear in
     let more = ap depth (take_more xs i no_layer c.loop-i-test.true) in (
       omega (arith, more, depth_push (take i xs) (get_or xs i no_layer), here.shallow),

@@ -8,7 +8,7 @@ loop-layer-preserved c =
     let xs = c.args.layers.now in
     let i = c.loop-layer.layer-index in
     let here = get_or xs i no_layer in (
-      c.push-reserved.ensures.items ∙ ap (λ ls. ls ++ here ∷ []) c.loop-layer.invariant.0 ∙ sym (take_more xs i no_layer c.loop-layer-test.true),
+      c.push_reserved.ensures.items ∙ ap (λ ls. ls ++ here ∷ []) c.loop-layer.invariant.0 ∙ sym (take_more xs i no_layer c.loop-layer-test.true),
       search rules,
       search rules,
     )

@@ -4,8 +4,8 @@ use Rattle.ground.specs.Layers.{depth}
 use Rattle.ground.specs.Edits.{no_layer}
 use Rattle.ground.proofs.table.edits.total.Goals as goal
 
-pub overflow-add-sum : goal.overflow-add-sum
-overflow-add-sum c =
+pub overflow_add-sum : goal.overflow_add-sum
+overflow_add-sum c =
     let xs = c.args.layers.now in
     omega (arith, at_drop_more depth xs c.loop-layer.layer-index no_layer c.loop-layer-test.true)
 

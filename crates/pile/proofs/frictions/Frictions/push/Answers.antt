@@ -6,8 +6,8 @@ use Rattle.pile.specs.Frictions.{all_moderate}
 use Rattle.pile.proofs.Bounds.{moderate_push}
 use Rattle.pile.proofs.frictions.Frictions.push.Goals as goal
 
-pub invariant-of-self : goal.invariant-of-self
-invariant-of-self c =
+pub invariant_of-self : goal.invariant_of-self
+invariant_of-self c =
     let old = c.args.self.now in
     let inside : old.count < length old.values = omega (arith, old.whole) in
     let fits : outside friction_limits c.args.friction ≡ false = sym c.if-excludes.ensures in (

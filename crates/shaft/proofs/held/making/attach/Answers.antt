@@ -21,7 +21,7 @@ loop-i-preserved c =
     let in-frictions : i < length qs = omega (arith, c.min-most.ensures, c.loop-i-test.true) in
     let room : i < length ps = omega (arith, c.requires, c.loop-i.invariant.0) in (
       length-set ps i _ ∙ c.loop-i.invariant.0,
-      attached_again ls qs i c.loop-i.left ps _ c.loop-i.invariant.1 c.min.result c.saturating-sub-left.result more in-layers in-frictions room c.min.ensures c.saturating-sub-left.ensures,
+      attached_again ls qs i c.loop-i.left ps _ c.loop-i.invariant.1 c.min.result c.saturating_sub-left.result more in-layers in-frictions room c.min.ensures c.saturating_sub-left.ensures,
     )
 
 pub returns : goal.returns
