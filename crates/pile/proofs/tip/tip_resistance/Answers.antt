@@ -38,7 +38,7 @@ returns c =
     let sum = c.pressure_between-integral.result in
     let bounds = pile_bounds r c.numbers-numbers.ensures.fit in
     let lengths : r.length ≡ n.length = ap (λ m. m.length) same in
-    let deep : needed_depth n ≤ depth ls = omega (arith, c.if-depth_needed.false, c.depth.ensures, c.depth_needed-needed.ensures) in
+    let deep : needed_depth n ≤ depth ls = omega (arith, c.if-depth-needed.false, c.depth.ensures, c.depth_needed-needed.ensures) in
     let embedded : c.match-bearing_layer.embedment ≡ embedment ls n.length = elim c.match-bearing_layer.branch [
       | in-Some w ↦ embedment_same ls r.length c.match-bearing_layer.embedment _ w.in-Some.ensures w.embedment-is ∙ ap (embedment ls) lengths
       | in-None w ↦ absurd (omega (arith, w.in-None.ensures, deep, lengths))

@@ -25,7 +25,7 @@ returns-in-Ok-resistance g c =
     let r : c.in-Ok-resistance.resistance ≡ resistance_by answer ls n = told.1.0 ∙ ap (resistance_over ls n) fetched.1 in
     let same : c.judgement.result ≡ judgement_of (resistance_by answer ls n) q = c.judgement.ensures ∙ ap (λ (x : ℕ). judgement_of x q) r in
     let asked : question_flaw q ≡ None = sym c.flaw_of.ensures ∙ c.in_default.is in
-    let deep : n.length ≤ depth ls = omega (arith, c.depth.ensures, c.depth_needed-needed.ensures, c.if-depth_needed.false) in
+    let deep : n.length ≤ depth ls = omega (arith, c.depth.ensures, c.depth_needed-needed.ensures, c.if-depth-needed.false) in
     let near = resistance_near tolerance fraction answer (g.met.R.FrictionRule.within rule) ls n deep fetched.0 in (
       or_free _ _ asked (or_free _ _ told.0 fetched.0),
       record {

@@ -11,16 +11,10 @@ invariant_of-self c =
     let old = c.index-old.result.now in
     let i = c.args.index in
     let inside : i < length ls = omega arith in
-    let was : fit old ≡ true = ap fit c.index-old.ensures ∙ sound_at ls i old inside before.fit in (
-      search rules,
-      (
-        search rules,
-        (
-          sound_set ls i _ before.fit (fit_revised old c.args.pressure c.args.modulus was (search rules) (search rules)),
-          (
-            omega (arith, depth_set ls i (revised old c.args.pressure c.args.modulus) old (ap (λ l. l.thickness) c.index-old.ensures), before.shallow),
-            tt,
-          ),
-        ),
-      ),
-    )
+    let was : fit old ≡ true = ap fit c.index-old.ensures ∙ sound_at ls i old inside before.fit in
+    record {
+      few = search rules;
+      room = search rules;
+      fit = sound_set ls i _ before.fit (fit_revised old c.args.pressure c.args.modulus was (search rules) (search rules));
+      shallow = omega (arith, depth_set ls i (revised old c.args.pressure c.args.modulus) old (ap (λ l. l.thickness) c.index-old.ensures), before.shallow);
+    }

@@ -11,16 +11,10 @@ invariant_of-self c =
     let ls = vec_items old.layers in
     let clear : lay_refusal ls c.args.layer ≡ None = ap (λ above. lay_refusal above c.args.layer) (sym c.layers.ensures.value) ∙ sym c.in_default.ensures in
     let here = layable ls c.args.layer clear in
-    let left = c.push_reserved.ensures.items in (
-      search rules,
-      (
-        search rules,
-        (
-          ap sound left ∙ sound_push ls c.args.layer old.fit here.fits,
-          (
-            omega (arith, ap depth left, depth_push ls c.args.layer, here.shallow),
-            tt,
-          ),
-        ),
-      ),
-    )
+    let left = c.push_reserved.ensures.items in
+    record {
+      few = search rules;
+      room = search rules;
+      fit = ap sound left ∙ sound_push ls c.args.layer old.fit here.fits;
+      shallow = omega (arith, ap depth left, depth_push ls c.args.layer, here.shallow);
+    }

@@ -11,10 +11,10 @@ refill-requires c =
 pub invariant_of-self : goal.invariant_of-self
 invariant_of-self c =
     let all = all_layable [] c.args.layers.now (omega arith) (omega arith) (sym c.in_default.ensures) in
-    let left = c.refill.ensures.items in (
-      omega (arith, all.few, c.refill.ensures.len),
-      (
-        omega (arith, c.refill.ensures.capacity, c.args.self.now.room),
-        (ap sound left ∙ all.fits, (omega (arith, ap depth left, all.shallow), tt)),
-      ),
-    )
+    let left = c.refill.ensures.items in
+    record {
+      few = omega (arith, all.few, c.refill.ensures.len);
+      room = omega (arith, c.refill.ensures.capacity, c.args.self.now.room);
+      fit = ap sound left ∙ all.fits;
+      shallow = omega (arith, ap depth left, all.shallow);
+    }

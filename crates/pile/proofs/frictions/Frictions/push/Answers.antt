@@ -10,16 +10,12 @@ pub invariant_of-self : goal.invariant_of-self
 invariant_of-self c =
     let old = c.args.self.now in
     let inside : old.count < length old.values = omega (arith, old.whole) in
-    let fits : outside friction_limits c.args.friction ≡ false = sym c.if-excludes.ensures in (
-      length-set old.values old.count c.args.friction ∙ old.whole,
-      (
-        omega arith,
-        (
-          ap all_moderate (take_more_set old.values old.count c.args.friction inside) ∙ moderate_push (take old.count old.values) c.args.friction old.moderate fits,
-          tt,
-        ),
-      ),
-    )
+    let fits : outside friction_limits c.args.friction ≡ false = sym c.if-excludes.ensures in
+    record {
+      whole = length-set old.values old.count c.args.friction ∙ old.whole;
+      few = omega arith;
+      moderate = ap all_moderate (take_more_set old.values old.count c.args.friction inside) ∙ moderate_push (take old.count old.values) c.args.friction old.moderate fits;
+    }
 
 pub returns : goal.returns
 returns c =

@@ -20,25 +20,14 @@ invariant_of-result c =
     let parts = take c.attach_up-count.result c.attach_up-count.new.parts in
     let bounds = pile_bounds r c.numbers-numbers.ensures.fit in
     let same : parts ≡ parts_up ls n qs = told.value ∙ parts_same ls zs n r qs ys c.numbers-numbers.ensures.value c.layers.ensures.value c.values.ensures.value in
-    let whole = resistance_up ls n qs parts same c.in_ok-body.body body.0 in (
-      told.len,
-      (
-        told.few,
-        (
-          body.1,
-          (
-            body.2,
-            (
-              contacts_up zs r ys parts told.value c.layers.ensures.fit c.values.ensures.moderate,
-              (
-                bounds.step,
-                (
-                  omega (arith, height_up zs r ys parts told.value, bounds.length.1),
-                  (omega (arith, whole, c.in_ok-resistance.ensures.1.0, c.if-branch-body.false), tt),
-                ),
-              ),
-            ),
-          ),
-        ),
-      ),
-    )
+    let whole = resistance_up ls n qs parts same c.in_ok-body.body body.0 in
+    record {
+      whole = told.len;
+      few = told.few;
+      bodied = body.1;
+      borne = body.2;
+      met = contacts_up zs r ys parts told.value c.layers.ensures.fit c.values.ensures.moderate;
+      stepped = bounds.step;
+      deep = omega (arith, height_up zs r ys parts told.value, bounds.length.1);
+      firm = omega (arith, whole, c.in_ok-resistance.ensures.1.0, c.if-branch-body.false);
+    }
