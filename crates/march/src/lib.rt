@@ -30,7 +30,7 @@ fn tip_node<L: TransferLaw>(law: &L, body: &PileBody, side: Side, s: u64) -> Nod
     requires tip_resistance_bound { body.now.tip_area * body.now.tip_resistance ≤ most_strain * body.now.stiffness }
     requires body { Body body.now }
     requires contact { Contact body.now.tip_soil body.now.tip_modulus body.now.tip_resistance }
-    ensures { result ≡ tip_by side (case_of (shaft_curve law.now) (tip_curve law.now) body.now []) s }
+    ensures { result ≡ tip_by side (case_of (L.shaft_curve law.now) (L.tip_curve law.now) body.now []) s }
 {
     let v = law.tip(
         body.tip_soil,
@@ -61,7 +61,7 @@ fn part_over<L: TransferLaw>(
     requires ahead { Ahead body.now under part.now.height (part_resistance body.now part.now) }
     requires within { Within step_limits step }
     requires contact { Contact part.now.soil part.now.modulus part.now.friction }
-    ensures { result ≡ head_over (step_by side (case_of (shaft_curve law.now) (tip_curve law.now) body.now [])) under (cut step part.now) }
+    ensures { result ≡ head_over (step_by side (case_of (L.shaft_curve law.now) (L.tip_curve law.now) body.now [])) under (cut step part.now) }
 {
     let mut node = under;
     let mut left = part.height;
@@ -76,7 +76,7 @@ fn part_over<L: TransferLaw>(
 
 // The head of the pile by either march from the tip displacement `s` in nm; a displacement beyond the tip's range is taken as the range.
 pub fn march<L: TransferLaw>(law: &L, shaft: &Shaft, side: Side, s: u64) -> Node
-    ensures { result ≡ head_by side (case_over (shaft_curve law.now) (tip_curve law.now) shaft.now) (min s (tip_range (body_of shaft.now))) }
+    ensures { result ≡ head_by side (case_over (L.shaft_curve law.now) (L.tip_curve law.now) shaft.now) (min s (tip_range (body_of shaft.now))) }
 {
     let body = shaft.body();
     let step = shaft.step();

@@ -31,7 +31,7 @@ fn lower_over<L: TransferLaw>(law: &L, body: &PileBody, slice: Part, under: Node
     requires ahead { Ahead body.now under slice.height (part_resistance body.now slice) }
     requires height_le_most { slice.height ≤ step_limits.most }
     requires contact { Contact slice.soil slice.modulus slice.friction }
-    ensures { result ≡ lower_step (case_of (shaft_curve law.now) (tip_curve law.now) body.now []) slice under }
+    ensures { result ≡ lower_step (case_of (L.shaft_curve law.now) (L.tip_curve law.now) body.now []) slice under }
 {
     let skin = body.perimeter * slice.height;
     let displacement = under.displacement + under.force * slice.height / body.stiffness;
@@ -52,7 +52,7 @@ fn upper_over<L: TransferLaw>(law: &L, body: &PileBody, slice: Part, under: Node
     requires ahead { Ahead body.now under slice.height (part_resistance body.now slice) }
     requires height_le_most { slice.height ≤ step_limits.most }
     requires contact { Contact slice.soil slice.modulus slice.friction }
-    ensures { result ≡ upper_step (case_of (shaft_curve law.now) (tip_curve law.now) body.now []) slice under }
+    ensures { result ≡ upper_step (case_of (L.shaft_curve law.now) (L.tip_curve law.now) body.now []) slice under }
 {
     let skin = body.perimeter * slice.height;
     let most = under.force + skin * slice.friction;
@@ -82,7 +82,7 @@ pub(super) fn over<L: TransferLaw>(
     requires ahead { Ahead body.now under slice.height (part_resistance body.now slice) }
     requires height_le_most { slice.height ≤ step_limits.most }
     requires contact { Contact slice.soil slice.modulus slice.friction }
-    ensures { result ≡ step_by side (case_of (shaft_curve law.now) (tip_curve law.now) body.now []) slice under }
+    ensures { result ≡ step_by side (case_of (L.shaft_curve law.now) (L.tip_curve law.now) body.now []) slice under }
 {
     match side {
         Side::Lower => lower_over(law, body, slice, under),

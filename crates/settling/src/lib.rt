@@ -38,7 +38,7 @@ pub fn load_flaw(load: u64) -> Option<Refusal>
 // The brackets of tip and head under a load in kN, or none where no lower march ends above it.
 fn settlement<L: TransferLaw>(law: &L, shaft: &Shaft, load: u64) -> Option<Settlement>
     requires { load_flaw load ≡ None }
-    ensures { MatchOption result (no_march_above (case_over (shaft_curve law.now) (tip_curve law.now) shaft.now) (tip_range (body_of shaft.now)) (micronewtons load) ≡ true) (λ x. Settles (case_over (shaft_curve law.now) (tip_curve law.now) shaft.now) (tip_range (body_of shaft.now)) (micronewtons load) x) }
+    ensures { MatchOption result (no_march_above (case_over (L.shaft_curve law.now) (L.tip_curve law.now) shaft.now) (tip_range (body_of shaft.now)) (micronewtons load) ≡ true) (λ x. Settles (case_over (L.shaft_curve law.now) (L.tip_curve law.now) shaft.now) (tip_range (body_of shaft.now)) (micronewtons load) x) }
 {
     let force = load * MICRONEWTONS;
     let Some(upper) = upper_tip(law, shaft, force) else {

@@ -4,7 +4,7 @@ use ground::table::Ground;
 use pile::driven::Pile;
 use transfer::TransferLaw;
 
-pub mod calls;
+pub mod calling;
 
 #[derive(Drop)]
 pub struct Study<R: FrictionRule, L: TransferLaw> {

@@ -15,7 +15,7 @@ mod probe;
 
 // The smallest tip displacement in 0 to T whose march ends above `floor`, in µN.
 fn first_above<L: TransferLaw>(law: &L, shaft: &Shaft, side: Side, floor: u64) -> Option<u64>
-    ensures { MatchOption result ((t : ℕ) → t ≤ tip_range (body_of shaft.now) → end_by side (case_over (shaft_curve law.now) (tip_curve law.now) shaft.now) t ≤ floor) (λ s. FirstAbove side (case_over (shaft_curve law.now) (tip_curve law.now) shaft.now) (tip_range (body_of shaft.now)) floor s) }
+    ensures { MatchOption result ((t : ℕ) → t ≤ tip_range (body_of shaft.now) → end_by side (case_over (L.shaft_curve law.now) (L.tip_curve law.now) shaft.now) t ≤ floor) (λ s. FirstAbove side (case_over (L.shaft_curve law.now) (L.tip_curve law.now) shaft.now) (tip_range (body_of shaft.now)) floor s) }
 {
     let range = shaft.tip_range();
     let above = march(law, shaft, side, range).force;
@@ -45,7 +45,7 @@ fn first_above<L: TransferLaw>(law: &L, shaft: &Shaft, side: Side, floor: u64) -
 
 // The smallest tip displacement in 0 to T whose lower march ends above the load in µN; none where no such march does.
 pub fn upper_tip<L: TransferLaw>(law: &L, shaft: &Shaft, load: u64) -> Option<u64>
-    ensures { MatchOption result (no_march_above (case_over (shaft_curve law.now) (tip_curve law.now) shaft.now) (tip_range (body_of shaft.now)) load ≡ true) (λ s. IsUpperTip (case_over (shaft_curve law.now) (tip_curve law.now) shaft.now) (tip_range (body_of shaft.now)) load s) }
+    ensures { MatchOption result (no_march_above (case_over (L.shaft_curve law.now) (L.tip_curve law.now) shaft.now) (tip_range (body_of shaft.now)) load ≡ true) (λ s. IsUpperTip (case_over (L.shaft_curve law.now) (L.tip_curve law.now) shaft.now) (tip_range (body_of shaft.now)) load s) }
 {
     match first_above(law, shaft, Side::Lower, load) {
         Some(first) => Some(first),
@@ -55,7 +55,7 @@ pub fn upper_tip<L: TransferLaw>(law: &L, shaft: &Shaft, load: u64) -> Option<u6
 
 // The largest tip displacement in 0 to T whose upper march ends below the load in µN, or 0: one less than the first that ends above a µN less.
 pub fn lower_tip<L: TransferLaw>(law: &L, shaft: &Shaft, load: u64) -> u64
-    ensures { IsLowerTip (case_over (shaft_curve law.now) (tip_curve law.now) shaft.now) (tip_range (body_of shaft.now)) load result }
+    ensures { IsLowerTip (case_over (L.shaft_curve law.now) (L.tip_curve law.now) shaft.now) (tip_range (body_of shaft.now)) load result }
 {
     if load == 0 {
         return 0;

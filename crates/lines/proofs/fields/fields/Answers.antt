@@ -9,7 +9,7 @@ loop-i-init g c = (length-replicate _ _, start _ _)
 
 pub returns-in_err-number : goal.returns-in_err-number
 returns-in_err-number g c =
-    let out = c.from-residual in
+    let out = c.from_residual in
     let p = err_from_is_err_and out.result out.ensures.1 in
     let why = c.in_err-number.ensures in
     rw (p.1, p.2) (broken c.loop-i-test.true c.loop-i.invariant.1 why.0 why.1)
