@@ -12,7 +12,11 @@ loop-part-init g c =
 pub part_over-node-requires : goal.part_over-node-requires
 part_over-node-requires g c =
     let room = room_shown c.step-step.ensures c.parts-part-items.ensures c.body-body.ensures.room in
-    (going_room_at _ c.args.side c.loop-part-test.true c.loop-part.invariant, room.step_fits, contact_at c.parts-part-items.result.now c.loop-part.part-index c.loop-part-test.true room.shaft)
+    record {
+      ahead = going_room_at _ c.args.side c.loop-part-test.true c.loop-part.invariant;
+      within = room.step_fits;
+      contact = contact_at c.parts-part-items.result.now c.loop-part.part-index c.loop-part-test.true room.shaft;
+    }
 
 pub loop-part-preserved : goal.loop-part-preserved
 loop-part-preserved g c =

@@ -9,16 +9,16 @@ overflow_mul-result g c =
     let b = c.args.body.now in
     let cap : c.match-side.met ≤ b.tip_resistance =
     elim c.match-side.branch [
-      | in-Lower w ↦ omega (arith, w.met-is, c.tip_v.ensures.capped)
+      | in-Lower w ↦ omega (arith, w.met-is, c.tip-v.ensures.capped)
       | in-Upper w ↦ omega (arith, w.met-is, w.raise-met.ensures)
     ] in
-    omega (arith, mul-le-mul_left b.tip_area cap, c.requires.1, c.requires.2.1)
+    omega (arith, mul-le-mul_left b.tip_area cap, c.requires.tip_resistance_bound, c.requires.body.1)
 
 pub returns : goal.returns
 returns g c =
     let t = g.L.TransferLaw in
     let k = case_of (t.shaft_curve c.args.law.now) (t.tip_curve c.args.law.now) c.args.body.now [] in
     elim c.match-side.branch [
-      | in-Lower w ↦ tip_lower k c.args.s c.requires.2 c.requires.3 c.requires.0 c.tip_v.ensures.value w.in-Lower.is w.met-is
-      | in-Upper w ↦ tip_upper k c.args.s c.requires.2 c.requires.3 c.requires.0 c.tip_v.ensures.value w.in-Upper.is (w.met-is ∙ w.raise-met.ensures)
+      | in-Lower w ↦ tip_lower k c.args.s c.requires.body c.requires.contact c.requires.s_bound c.tip-v.ensures.value w.in-Lower.is w.met-is
+      | in-Upper w ↦ tip_upper k c.args.s c.requires.body c.requires.contact c.requires.s_bound c.tip-v.ensures.value w.in-Upper.is (w.met-is ∙ w.raise-met.ensures)
     ]
