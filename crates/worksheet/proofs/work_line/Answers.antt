@@ -15,7 +15,7 @@ returns g c =
     let letter = c.letter_of.result in
     let answer = c.reply-answer.result in
     let text = answer_text letter answer in
-    let room : vec_len wide + longest_answer ≤ vec_capacity wide = c.reserve.ensures.ok (ap is_ok c.in_default.is) in
+    let room : vec_len wide + longest_answer ≤ vec_capacity wide = made_ok c.reserve.result (vec_len wide + longest_answer ≤ vec_capacity wide) (ap is_ok c.in_default.is) c.reserve.ensures.ok in
     let ok : is_ok r ≡ true = c.write_answer.ensures.succeeds room in
     let items : vec_items new ≡ vec_items out ++ text =
     c.write_answer.ensures.items ∙ ap (λ b. cond b (vec_items wide ++ text) (vec_items wide)) ok ∙ ap (λ o. o ++ text) c.reserve.ensures.items in
