@@ -1,5 +1,5 @@
 -- The bracket.
-use Rattle.std.proofs.Common.{◌≡◌, ℕ, ◌+◌, ◌*◌, ◌<◌, ◌≤◌, ◌⊎◌, ◌∷◌, inl, inr, le_of_eq, mul-le-mul_left, mul-lt-mul_of_pos_right, arith}
+use Rattle.std.proofs.Common.{◌≡◌, ℕ, ◌*◌, ◌<◌, ◌≤◌, ◌∷◌, inl, inr, le_of_eq, mul-le-mul_left, mul-lt-mul_of_pos_right, arith}
 use native.Mathlib.Decide.{dec_le}
 use Rattle.column.specs.Case.{Case, Sound}
 use Rattle.column.specs.Nodes.{Nodes, node, end_force}

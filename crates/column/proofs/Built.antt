@@ -1,11 +1,11 @@
 -- The column that the lower curve itself gives, from a whole displacement of the tip, in parts of the stiffness.
-use Rattle.std.proofs.Common.{◌≡◌, ℕ, ◌+◌, ◌*◌, ◌/◌, ◌<◌, ◌≤◌, List, [], ◌∷◌, refl, le_refl, mul-le-mul_right, mul-le-mul_left, mul-div_cancel, arith}
+use Rattle.std.proofs.Common.{◌≡◌, ℕ, ◌+◌, ◌*◌, ◌/◌, ◌≤◌, List, [], ◌∷◌, refl, le_refl, mul-le-mul_left, mul-div_cancel, arith}
 use Rattle.column.specs.declared.Part.{Part}
 use Rattle.column.specs.declared.Node.{Node}
 use Rattle.column.specs.Rounding.{ceil}
-use Rattle.column.specs.Case.{Case, Sound, raised, shaft_v, shaft_w, skin, tip_v, tip_w}
+use Rattle.column.specs.Case.{Case, Sound, shaft_v, shaft_w, skin, tip_v, tip_w}
 use Rattle.column.specs.Nodes.{Nodes, last}
-use Rattle.column.specs.Balanced.{TipBalance, SliceBalance, ShaftBalance, Balanced}
+use Rattle.column.specs.Balanced.{SliceBalance, ShaftBalance}
 use Rattle.column.specs.Bracket.{ColumnFrom, CarriesLess}
 use Rattle.column.proofs.Rounding.{floor_ceil}
 use Rattle.column.proofs.Dominance.{shaft_v_mono, tip_v_mono}

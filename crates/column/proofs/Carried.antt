@@ -7,9 +7,9 @@ use Rattle.column.specs.declared.Part.{Part}
 use Rattle.column.specs.declared.Node.{Node}
 use Rattle.column.specs.Rounding.{ceil}
 use Rattle.column.specs.Case.{Case, Sound, shaft_v, shaft_w, skin, tip_v, tip_w}
-use Rattle.column.specs.Nodes.{Nodes, end_force, last}
-use Rattle.column.specs.Marches.{climb, lower_end, lower_step, lower_tip}
-use Rattle.column.specs.Balanced.{TipBalance, SliceBalance, ShaftBalance, Balanced}
+use Rattle.column.specs.Nodes.{last}
+use Rattle.column.specs.Marches.{climb, lower_step, lower_tip}
+use Rattle.column.specs.Balanced.{TipBalance, SliceBalance, ShaftBalance}
 use Rattle.column.specs.Tips.{IsUpperTip}
 use Rattle.column.specs.Bracket.{CarriesExactly}
 use Rattle.column.proofs.Rounding.{floor_least, ceil_most}

@@ -1,13 +1,13 @@
 -- A balanced column whose tip has moved at least s stays above the lower march from s, and one whose tip has moved at most s stays
 -- below the upper march.
-use Rattle.std.proofs.Common.{ℕ, ◌+◌, ◌*◌, ◌/◌, ◌<◌, ◌≤◌, min, List, [], ◌∷◌, le_trans, mul-le-mul_left, arith}
+use Rattle.std.proofs.Common.{ℕ, ◌+◌, ◌*◌, ◌/◌, ◌<◌, ◌≤◌, List, [], ◌∷◌, le_trans, mul-le-mul_left, arith}
 use Rattle.column.specs.declared.Part.{Part}
 use Rattle.column.specs.declared.Node.{Node}
 use Rattle.column.specs.Rounding.{ceil}
-use Rattle.column.specs.Case.{Case, Sound, raised, shaft_v, shaft_w, skin, tip_v, tip_w}
-use Rattle.column.specs.Nodes.{Nodes, end_force, last}
+use Rattle.column.specs.Case.{Case, Sound, shaft_v, shaft_w, skin, tip_v, tip_w}
+use Rattle.column.specs.Nodes.{Nodes, end_force}
 use Rattle.column.specs.Marches.{climb, furthest, lower_end, lower_march, lower_step, lower_tip, upper_end, upper_force, upper_march, upper_step, upper_tip}
-use Rattle.column.specs.Balanced.{TipBalance, SliceBalance, ShaftBalance, Balanced}
+use Rattle.column.specs.Balanced.{SliceBalance, ShaftBalance, Balanced}
 use Rattle.column.proofs.Nodewise.{AtLeast, AtMost, Each, Every, every_last}
 use Rattle.column.proofs.Rounding.{floor_least, ceil_most, raised_mono, lower_moved, upper_moved, lower_loaded, upper_loaded}
 

@@ -1,9 +1,8 @@
 -- A tip pushed further never lowers a march.
-use Rattle.std.proofs.Common.{ℕ, ◌+◌, ◌*◌, ◌/◌, ◌<◌, ◌≤◌, List, [], ◌∷◌, mul-le-mul_right, mul-le-mul_left, arith}
+use Rattle.std.proofs.Common.{◌+◌, ◌*◌, ◌≤◌, List, [], ◌∷◌, mul-le-mul_right, mul-le-mul_left, arith}
 use Rattle.column.specs.declared.Part.{Part}
 use Rattle.column.specs.declared.Node.{Node}
-use Rattle.column.specs.Rounding.{ceil}
-use Rattle.column.specs.Case.{Case, Sound, shaft_v, shaft_w, skin, tip_v, tip_w}
+use Rattle.column.specs.Case.{Case, Sound, skin}
 use Rattle.column.specs.Nodes.{last}
 use Rattle.column.specs.Marches.{climb, furthest, lower_step, lower_tip, upper_force, upper_step, upper_tip}
 use Rattle.column.specs.Bracket.{EndsRise}

@@ -4,7 +4,7 @@ use Rattle.column.specs.declared.Part.{Part}
 use Rattle.column.specs.declared.Node.{Node}
 use Rattle.column.specs.Rounding.{ceil}
 use Rattle.column.specs.Case.{Case, shaft_v, shaft_w, tip_v, tip_w, skin}
-use Rattle.column.specs.Nodes.{Nodes, last, end_force}
+use Rattle.column.specs.Nodes.{Nodes, end_force}
 
 -- the nodes above n, one for each slice, where f leads over a slice
 abbrev pub climb : (Part → Node → Node) → Node → List Part → List Node

@@ -96,7 +96,7 @@ fn lifts_the_lowest(rt: HostRuntime) -> Result<(), Fail> {
     assert_eq!(rt; ground.lift(), Err(Refusal::NoLayerToLift));
     ground.replace(&[sand(3_000), sand(4_000)])?;
     ground.lift()?;
-    assert_eq!(rt; ground.layers(), &[sand(3_000)]);
+    assert_eq!(rt; ground.layers(), [sand(3_000)].as_slice());
     Ok(())
 }
 
@@ -105,9 +105,10 @@ fn replaces_all(rt: HostRuntime) -> Result<(), Fail> {
     let mut ground = Ground::new(rt.alloc())?;
     ground.lay(sand(3_000))?;
     ground.replace(&[sand(4_000), sand(5_000)])?;
-    assert_eq!(rt; ground.layers(), &[sand(4_000), sand(5_000)]);
+    assert_eq!(rt; ground.layers(), [sand(4_000), sand(5_000)].as_slice());
     ground.replace(&[])?;
-    assert_eq!(rt; ground.layers(), &[]);
+    let none: &[Layer] = &[];
+    assert_eq!(rt; ground.layers(), none);
     Ok(())
 }
 
@@ -119,6 +120,6 @@ fn replaces_none(rt: HostRuntime) -> Result<(), Fail> {
         ground.replace(&[sand(4_000), sand(99)]),
         Err(Refusal::LayerNumber { field: 2 })
     );
-    assert_eq!(rt; ground.layers(), &[sand(3_000)]);
+    assert_eq!(rt; ground.layers(), [sand(3_000)].as_slice());
     Ok(())
 }

@@ -122,7 +122,7 @@ mod tests {
         let shallow = Answer::Refused(Refusal::ShallowGround { depth: 12_500 });
         write_answer(Some(Letter::Judge), &shallow, &mut out)?;
         write_answer(None, &Answer::Refused(Refusal::UnknownLetter), &mut out)?;
-        assert_eq!(rt; out.as_slice(), b"L ok\nJ E 42 12500\n? E 1 0\n");
+        assert_eq!(rt; out.as_slice(), b"L ok\nJ E 42 12500\n? E 1 0\n".as_slice());
         Ok(())
     }
 
@@ -143,7 +143,7 @@ mod tests {
         write_answer(Some(Letter::Judge), &Answer::Judged(widest), &mut out)?;
         assert_eq!(rt;
             out.as_slice(),
-            b"J 471000000000 372332015810 yes\nJ 18446744073709551615 0 no\n"
+            b"J 471000000000 372332015810 yes\nJ 18446744073709551615 0 no\n".as_slice()
         );
         Ok(())
     }

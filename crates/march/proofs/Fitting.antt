@@ -1,6 +1,6 @@
 -- One step of a march: what it computes fits 64 bits, the law is asked inside its limits, and what is ahead shrinks.
-use Rattle.std.proofs.Common.{◌≡◌, ℕ, ◌+◌, ◌-◌, ◌*◌, ◌/◌, ◌^◌, ◌<◌, ◌≤◌, sym, refl, ap, ◌∙◌, le_refl, mul-le-mul_right, mul-le-mul_left, arith}
-use Rattle.terms.specs.Limits.{Within, diameter_limits, displacement_limits, step_limits, length_limits}
+use Rattle.std.proofs.Common.{◌≡◌, ℕ, ◌+◌, ◌*◌, ◌/◌, ◌^◌, ◌<◌, ◌≤◌, ◌∙◌, le_refl, mul-le-mul_right, mul-le-mul_left, arith}
+use Rattle.terms.specs.Limits.{Within, diameter_limits, displacement_limits, step_limits}
 use Rattle.transfer.specs.Curve.{Curve, Capped}
 use Rattle.transfer.specs.Asked.{asked}
 use Rattle.transfer.proofs.Asking.{asked_inside}

@@ -1,5 +1,5 @@
 -- What the loops of a march keep.
-use Rattle.std.proofs.Common.{◌≡◌, ℕ, zero, suc, ◌+◌, ◌-◌, ◌*◌, ◌<◌, ◌≤◌, min, List, [], ◌∷◌, ◌++◌, length, drop, sym, refl, ap, ◌∙◌, subst, mul-le-mul_right, mul-le-mul_left, arith}
+use Rattle.std.proofs.Common.{◌≡◌, ℕ, zero, suc, ◌+◌, ◌-◌, ◌*◌, ◌<◌, ◌≤◌, min, List, [], ◌∷◌, length, drop, sym, refl, ap, ◌∙◌, subst, mul-le-mul_right, mul-le-mul_left, arith}
 use Rattle.std.proofs.lemmas.List.{drop_more, drop_all}
 use Rattle.transfer.specs.Curve.{Curve, Capped}
 use Rattle.column.specs.declared.Part.{Part}
@@ -7,7 +7,7 @@ use Rattle.column.specs.declared.PileBody.{PileBody}
 use Rattle.column.specs.declared.Node.{Node}
 use Rattle.column.specs.Rounding.{ceil}
 use Rattle.column.specs.Slices.{slice, pieces, cut_left, cut, slices}
-use Rattle.column.specs.Case.{Case, case_of, skin, tip_w}
+use Rattle.column.specs.Case.{Case, case_of, tip_w}
 use Rattle.column.specs.Tips.{tip_range}
 use Rattle.column.proofs.Rounding.{ceil_reaches}
 use Rattle.shaft.specs.Room.{Room, height_of, part_resistance, parts_resistance}

@@ -137,7 +137,7 @@ fn asks_of_no_layer_below_the_tip(rt: HostRuntime) -> Result<(), Fail> {
     ground.lay(layer(2, 2_000, 2_000))?;
     let pile = pile_of(5, 0)?;
     let frictions = fetch(&Pressuremeter, &ground, &pile)?;
-    assert_eq!(rt; frictions.values(), &[50_000]);
+    assert_eq!(rt; frictions.values(), [50_000].as_slice());
     let judgement = judge(&Pressuremeter, &ground, &pile, &asked(1, 1_000, 1_000))?;
     assert_eq!(rt; judgement.resistance, 471_000_000_000);
     Ok(())

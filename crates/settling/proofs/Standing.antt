@@ -1,5 +1,5 @@
 -- What is settled on a shaft is settled on the pile in the ground that it stands for.
-use Rattle.std.proofs.Common.{◌≡◌, ℕ, ◌*◌, ◌≤◌, false, List, None, Option, sym, ap, ◌∙◌, subst, arith}
+use Rattle.std.proofs.Common.{◌≡◌, ℕ, ◌≤◌, false, List, None, Option, ap, ◌∙◌, subst, arith}
 use Rattle.terms.specs.Limits.{load_limits}
 use Rattle.terms.proofs.Chained.{within}
 use Rattle.transfer.specs.Curve.{Curve, Transfers}
@@ -16,7 +16,7 @@ use Rattle.resistance.specs.Judging.{micronewtons}
 use Rattle.shaft.specs.declared.held.Shaft.{Shaft}
 use Rattle.shaft.specs.Views.{body_of, step_of, parts_of, case_over}
 use Rattle.shaft.specs.Standing.{StandsOn}
-use Rattle.shaft.specs.Attached.{body_on, parts_up, case_on}
+use Rattle.shaft.specs.Attached.{body_on, case_on}
 use Rattle.settling.specs.Piles.{shaft_frictions, pile_case, range_on}
 use Rattle.settling.specs.Refused.{load_flaw}
 use Rattle.settling.specs.Settles.{Settles, Encloses, SettledRightly}

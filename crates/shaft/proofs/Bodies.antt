@@ -1,5 +1,5 @@
 -- The body of a pile inside its limits, and on the layer that bears it.
-use Rattle.std.proofs.Common.{◌≡◌, ℕ, ◌*◌, ◌<◌, ◌≤◌, true, List, length, get_or, mul-le-mul, arith}
+use Rattle.std.proofs.Common.{◌≡◌, ℕ, ◌*◌, ◌<◌, ◌≤◌, true, List, get_or, mul-le-mul, arith}
 use Rattle.terms.specs.Limits.{Within, area_limits, pile_modulus_limits}
 use Rattle.ground.specs.declared.layer.Layer.{Layer}
 use Rattle.ground.specs.Edits.{no_layer}

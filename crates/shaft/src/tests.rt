@@ -57,7 +57,7 @@ fn stands_in_one_layer(rt: HostRuntime) -> Result<(), Fail> {
         modulus: 10_000,
         friction: 50_000,
     };
-    assert_eq!(rt; shaft.parts(), &[part]);
+    assert_eq!(rt; shaft.parts(), [part].as_slice());
     Ok(())
 }
 
@@ -85,7 +85,7 @@ fn goes_up_from_the_tip(rt: HostRuntime) -> Result<(), Fail> {
         modulus: 5_000,
         friction: 20_000,
     };
-    assert_eq!(rt; shaft.parts(), &[lower, upper]);
+    assert_eq!(rt; shaft.parts(), [lower, upper].as_slice());
     Ok(())
 }
 

@@ -1,15 +1,15 @@
 -- What a search for a tip displacement keeps, whatever it tries; and both tips from the first march that ends above.
-use Rattle.std.proofs.Common.{◌≡◌, ℕ, ◌+◌, ◌-◌, ◌<◌, ◌≤◌, min, true, refl, ap, ◌∙◌, inl, inr, arith}
+use Rattle.std.proofs.Common.{◌≡◌, ℕ, ◌-◌, ◌<◌, ◌≤◌, min, true, refl, ap, ◌∙◌, inl, inr, arith}
 use native.Mathlib.Decide.{dec_le}
 use Rattle.transfer.specs.Curve.{Curve, Rest, Rising, Capped}
 use Rattle.column.specs.declared.Node.{Node}
 use Rattle.column.specs.Case.{Case, Sound}
 use Rattle.column.specs.Marches.{lower_end, upper_end}
-use Rattle.column.specs.Tips.{tip_range, IsLowerTip, IsUpperTip, no_march_above}
+use Rattle.column.specs.Tips.{IsLowerTip, IsUpperTip, no_march_above}
 use Rattle.column.proofs.Rising.{ends_rise}
 use Rattle.column.proofs.Nowhere.{none_above}
 use Rattle.shaft.specs.declared.held.Shaft.{Shaft}
-use Rattle.shaft.specs.Views.{case_over, body_of}
+use Rattle.shaft.specs.Views.{case_over}
 use Rattle.march.specs.declared.Side.{Side}
 use Rattle.march.specs.declared.Side.TheVariants.{Lower, Upper}
 use Rattle.march.specs.Sides.{head_by}

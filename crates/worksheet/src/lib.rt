@@ -102,7 +102,10 @@ mod tests {
         work_sheet(&mut study, b"", &mut out)?;
         work_sheet(&mut study, b"L 2 10000 2000 10000 50\n\nS 60\n", &mut out)?;
         work_sheet(&mut study, b"U 1\nA 0 300 4000", &mut out)?;
-        assert_eq!(rt; out.as_slice(), b"L ok\n? E 1 0\n? E 1 0\nU E 2 1\nA ok\n");
+        assert_eq!(rt;
+            out.as_slice(),
+            b"L ok\n? E 1 0\n? E 1 0\nU E 2 1\nA ok\n".as_slice()
+        );
         Ok(())
     }
 }

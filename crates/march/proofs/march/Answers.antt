@@ -1,4 +1,4 @@
-use Rattle.std.proofs.Common.{◌≡◌, arith}
+use Rattle.std.proofs.Common.{arith}
 use Rattle.march.proofs.Cutting.{contact_at}
 use Rattle.march.proofs.Going.{going_start, going_over_at, going_room_at, going_end}
 use Rattle.march.proofs.Whole.{room_shown, start_within, head_shown}

@@ -1,6 +1,6 @@
 use Rattle.std.proofs.Common.{◌≤◌, [], ◌∙◌, mul-le-mul_left, arith}
 use Rattle.column.specs.Case.{case_of}
-use Rattle.march.proofs.Fitting.{asked_is, tip_lower, tip_upper}
+use Rattle.march.proofs.Fitting.{tip_lower, tip_upper}
 use Rattle.march.proofs.tip_node.Goals as goal
 use Rattle.march.proofs.tip_node.Goals.{in-Lower, in-Upper}
 

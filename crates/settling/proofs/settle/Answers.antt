@@ -1,6 +1,6 @@
 use Rattle.std.proofs.Common.{◌≡◌, ℕ, List, Some, None, sym, ap, ◌∙◌}
 use Rattle.terms.specs.declared.refusal.Refusal.TheVariants.{OverstrainedPile, LoadNotCarried}
-use Rattle.terms.specs.Chains.{when, or_else}
+use Rattle.terms.specs.Chains.{when}
 use Rattle.terms.proofs.Chained.{or_none, or_free, when_free}
 use Rattle.ground.specs.Table.{strata}
 use Rattle.pile.specs.Driven.{numbers_of}

@@ -1,4 +1,4 @@
-use Rattle.std.proofs.Common.{◌+◌, ◌-◌, ◌*◌, length, ap, ◌∙◌, arith, rules, below_more}
+use Rattle.std.proofs.Common.{◌+◌, ◌*◌, length, ap, ◌∙◌, arith, rules, below_more}
 use Rattle.std.proofs.lemmas.Slice.{between_to_end}
 use Rattle.lines.proofs.Digits.{more, less}
 use Rattle.lines.proofs.fields.field.Goals as goal

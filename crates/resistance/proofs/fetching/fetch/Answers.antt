@@ -2,14 +2,12 @@ use Rattle.std.proofs.Common.{◌≡◌, ℕ, ◌+◌, ◌-◌, ◌<◌, [], ◌
 use Rattle.std.proofs.lemmas.List.{at_drop_all, length_push}
 use Rattle.terms.specs.declared.refusal.Refusal.TheVariants.{NoFriction}
 use Rattle.ground.specs.Table.{strata}
-use Rattle.ground.specs.Layers.{fit}
 use Rattle.ground.specs.Edits.{no_layer}
 use Rattle.ground.proofs.Tables.{sound_at}
 use Rattle.pile.specs.Driven.{numbers_of}
 use Rattle.pile.specs.FrictionList.{friction_list}
 use Rattle.pile.specs.Shaft.{parts_above}
 use Rattle.pile.proofs.Bounds.{layer_bounds}
-use Rattle.resistance.specs.UnitFriction.{friction_of}
 use Rattle.resistance.specs.Fetched.{unsaid_from, frictions_of}
 use Rattle.resistance.proofs.OneLayer.{no_parts, pushed, refused_here, answered_here, one_on, at_site, all_fetched}
 use Rattle.resistance.proofs.fetching.fetch.Goals as goal
