@@ -70,7 +70,10 @@ fn amends_one_layer(rt: HostRuntime) -> Result<(), Fail> {
     ground.replace(&[sand(3_000), sand(4_000), sand(5_000)])?;
     ground.amend(1, 10_000, 100)?;
     let amended = layer(2, 4_000, 10_000, 100, 90);
-    assert_eq!(rt; ground.layers(), &[sand(3_000), amended, sand(5_000)]);
+    assert_eq!(rt;
+        ground.layers(),
+        [sand(3_000), amended, sand(5_000)].as_slice()
+    );
     Ok(())
 }
 
