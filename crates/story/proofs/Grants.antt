@@ -1,6 +1,6 @@
 -- A call without a refusal is allowed and answered right, and one with a refusal is not allowed: for every rule whose answers agree with its fractions.
 use Rattle.std.proofs.Common.{◌≡◌, ℕ, ◌+◌, ◌%◌, Bool, true, false, not, ◌&&◌, eqb, ltb, leb, List, [], ◌∷◌, length, is_some, Some, None, Option, sym, refl, ap, ◌∙◌, subst, arith}
-use Rattle.std.specs.List.{AllByRecursion as All}
+use Rattle.std.specs.List.{AllByRecursion}
 use Rattle.std.proofs.lemmas.Bool.{ltb-false, leb-false, eqb-true}
 use Rattle.terms.specs.declared.refusal.Refusal.{Refusal}
 use Rattle.terms.specs.declared.refusal.Refusal.TheVariants.{NoPile}
@@ -124,13 +124,13 @@ module _ (m : Meaning) (agrees : (soil category p : ℕ) → Agrees m.tolerance 
   has_answer t (Some f) None h e = absurd h
   has_answer t (Some f) (Some a) h e = refl
 
-  all_known : (n : PileNumbers) (i : ℕ) (ss : List ShaftPart) → unsaid_from m.answer n i ss ≡ None → All (λ part. is_some (said_of m.fraction n part.layer) ≡ true) ss
+  all_known : (n : PileNumbers) (i : ℕ) (ss : List ShaftPart) → unsaid_from m.answer n i ss ≡ None → AllByRecursion (λ part. is_some (said_of m.fraction n part.layer) ≡ true) ss
   all_known n i [] e = tt
   all_known n i (s ∷ ss) e =
       let a = or_none _ _ e in
       (has_fraction m.tolerance _ (said_of m.answer n s.layer) (agrees s.layer.soil n.category s.layer.pressure) (when_none _ _ a.0), all_known n (i + 1) ss a.1)
 
-  known_free : (n : PileNumbers) (i : ℕ) (ss : List ShaftPart) → All (λ part. is_some (said_of m.fraction n part.layer) ≡ true) ss → unsaid_from m.answer n i ss ≡ None
+  known_free : (n : PileNumbers) (i : ℕ) (ss : List ShaftPart) → AllByRecursion (λ part. is_some (said_of m.fraction n part.layer) ≡ true) ss → unsaid_from m.answer n i ss ≡ None
   known_free n i [] h = refl
   known_free n i (s ∷ ss) h =
       or_free _ _ (when_free _ _ (has_answer m.tolerance (said_of m.fraction n s.layer) _ (agrees s.layer.soil n.category s.layer.pressure) h.0)) (known_free n (i + 1) ss h.1)

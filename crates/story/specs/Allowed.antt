@@ -1,6 +1,6 @@
 -- What a site allows: conditions of the site and of a call's arguments, without running anything.
 use Rattle.std.specs.Prelude.{◌≡◌, ℕ, ◌+◌, ◌%◌, ◌<◌, ◌≤◌, true, length, is_some, Some}
-use Rattle.std.specs.List.{AllByRecursion as All}
+use Rattle.std.specs.List.{AllByRecursion}
 use Rattle.terms.specs.Limits.{Within, soil_limits, thickness_limits, pressure_limits, modulus_limits, ceiling_limits, max_layers, max_depth, category_limits, mark_limits, vibrodriven_limits, diameter_limits, perimeter_limits, area_limits, pile_modulus_limits, length_limits, tip_factor_limits, step_limits, load_limits, factor_limits}
 use Rattle.ground.specs.declared.layer.Layer.{Layer}
 use Rattle.ground.specs.Layers.{depth}
@@ -52,7 +52,7 @@ pub record TakesJudging (m : Meaning) (s : Site) (q : Question) : Type 0 where
   pub driven : PileNumbers
   pub there : s.pile ≡ Some driven
   pub deep : needed_depth driven ≤ depth s.layers
-  pub known : All (λ part. is_some (said_of m.fraction driven part.layer) ≡ true) (parts_above driven.length s.layers)
+  pub known : AllByRecursion (λ part. is_some (said_of m.fraction driven part.layer) ≡ true) (parts_above driven.length s.layers)
 
 abbrev pub Allowed : Meaning → Site → Plain → Type 0
 Allowed m s (Lay l) = TakesLayer s l
