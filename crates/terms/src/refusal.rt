@@ -92,9 +92,9 @@ impl Refusal {
             Refusal::QuestionNumber { .. }
             | Refusal::NoPile
             | Refusal::ShallowGround { .. }
-            | Refusal::NoFriction { .. }
             | Refusal::OverstrainedPile
-            | Refusal::LoadNotCarried => { Part::Answer }
+            | Refusal::LoadNotCarried
+            | Refusal::NoFriction { .. } => { Part::Answer }
             Refusal::ShaftLength | Refusal::TipLength => Part::Law,
         }
     }
