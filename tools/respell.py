@@ -15,7 +15,7 @@ import sys
 
 LETTER = r"[\w'\u2032\u2080-\u2089]"
 TOKEN = re.compile(rf"[^\W\d]{LETTER}*(?:-{LETTER}+)*")
-SIGNATURE = re.compile(rf"^ {{0,2}}(?:pub |abbrev |unfoldable |opaque )*({TOKEN.pattern}) :(?!:) *(goal\.|given\.)?", re.M)
+SIGNATURE = re.compile(rf"^ *(?:pub |abbrev |unfoldable |opaque )*({TOKEN.pattern}) :(?!:) *(goal\.|given\.)?", re.M)
 FORM = re.compile(rf"^ *(?:pub |abbrev )*(?:record|data) ({TOKEN.pattern})", re.M)
 ALIAS = re.compile(rf" as ({TOKEN.pattern})(?=[,}}])")
 MEMBER = re.compile(r"^ *ghost ([a-z]+[A-Z]\w*)\b", re.M)

@@ -9,7 +9,7 @@ use Rattle.column.specs.Tips.{IsLowerTip, IsUpperTip}
 use Rattle.column.specs.Bracket.{BracketStands, Inside, CarriesLess, CarriesMore}
 use Rattle.column.proofs.Dominance.{above_lower, below_upper, ends_above, ends_below}
 use Rattle.column.proofs.Nodewise.{AtLeast, AtMost, each_at, length_climb}
-use Rattle.column.proofs.Built.{from-whole, idle}
+use Rattle.column.proofs.Built.{from_whole, idle}
 use Rattle.column.proofs.Carried.{some_column}
 
 module _ (c : Case) (ok : Sound c) where
@@ -29,13 +29,13 @@ module _ (c : Case) (ok : Sound c) where
 
   light : (T F lo : ℕ) → 1 ≤ F → IsLowerTip c T F lo → CarriesLess c F lo
   light T F lo some (inl is) =
-      let x = from-whole c ok lo in
+      let x = from_whole c ok lo in
       record { column = x; less = lighter F lo x.scale x.nodes x.balanced is.below (omega (arith, x.moved)) }
   light T F lo some (inr is) = idle c ok F lo some is.zero
 
   heavy : (T F hi : ℕ) → IsUpperTip c T F hi → CarriesMore c F hi
   heavy T F hi is =
-      let x = from-whole c ok hi in
+      let x = from_whole c ok hi in
       record { column = x; more = heavier F hi x.scale x.nodes x.balanced is.above (omega (arith, x.moved)) }
 
   inside : (T F lo hi : ℕ) → IsLowerTip c T F lo → IsUpperTip c T F hi → Inside c F lo hi

@@ -49,8 +49,8 @@ module _ (c : Case) where
     rises d N [] = tt
     rises d N (g ∷ gs) = (step g d N, rises (d + N * g.height) (N + gain g d) gs)
 
-    pub from-whole : (s : ℕ) → ColumnFrom c s
-    from-whole s =
+    pub from_whole : (s : ℕ) → ColumnFrom c s
+    from_whole s =
         let same : s * S / S ≡ s = mul-div_cancel s ok.stiff in
         let least : tip_v c (s * S / S) ≤ tip_v c s = tip_v_mono c ok (s * S / S) s (omega arith) in
         let most : tip_v c s ≤ tip_v c (ceil (s * S) S) = tip_v_mono c ok s (ceil (s * S) S) (omega (arith, floor_ceil S (s * S) (s * S) ok.stiff (le_refl _))) in

@@ -85,9 +85,9 @@ module _ (c : Case) where
       node : Node
       above : List Node
       positive : 0 < scale
-      scale-is : scale ≡ α * y.scale + β * z.scale
-      moved-is : node.displacement ≡ α * y.moved + β * z.moved
-      force-is : node.force ≡ α * y.force + β * z.force
+      scale_is : scale ≡ α * y.scale + β * z.scale
+      moved_is : node.displacement ≡ α * y.moved + β * z.moved
+      force_is : node.force ≡ α * y.force + β * z.force
       shaft : ShaftBalance c scale node gs above
       head : (last node above).force ≡ F * scale
 
@@ -104,9 +104,9 @@ module _ (c : Case) where
         node = record { displacement = y.moved; force = y.force };
         above = [];
         positive = iy.scale;
-        scale-is = omega arith;
-        moved-is = omega arith;
-        force-is = omega arith;
+        scale_is = omega arith;
+        moved_is = omega arith;
+        force_is = omega arith;
         shaft = tt;
         head = omega arith;
       }
@@ -122,9 +122,9 @@ module _ (c : Case) where
             node = record { displacement = x.moved; force = x.force };
             above = [];
             positive = omega (arith, mul-pos some iz.scale);
-            scale-is = refl;
-            moved-is = refl;
-            force-is = refl;
+            scale_is = refl;
+            moved_is = refl;
+            force_is = refl;
             shaft = tt;
             head = meets y.scale z.scale y.force z.force F α β (omega arith) (omega arith);
           })
@@ -140,18 +140,18 @@ module _ (c : Case) where
       node = h.node;
       above = h.above;
       positive = h.positive;
-      scale-is = h.scale-is ∙ scale;
-      moved-is = h.moved-is ∙ moved;
-      force-is = h.force-is ∙ force;
+      scale_is = h.scale_is ∙ scale;
+      moved_is = h.moved_is ∙ moved;
+      force_is = h.force_is ∙ force;
       shaft = h.shaft;
       head = h.head;
     }
 
-    from-left : (gs : List Part) (p q : ℕ) (y z : Place) → Hit gs y (mix p q y z) → Hit gs y z
-    from-left gs p q y z h = again h (h.α + h.β * p) (h.β * q) (omega arith) (omega arith) (omega arith)
+    from_left : (gs : List Part) (p q : ℕ) (y z : Place) → Hit gs y (mix p q y z) → Hit gs y z
+    from_left gs p q y z h = again h (h.α + h.β * p) (h.β * q) (omega arith) (omega arith) (omega arith)
 
-    from-right : (gs : List Part) (p q : ℕ) (y z : Place) → Hit gs (mix p q y z) z → Hit gs y z
-    from-right gs p q y z h = again h (h.α * p) (h.α * q + h.β) (omega arith) (omega arith) (omega arith)
+    from_right : (gs : List Part) (p q : ℕ) (y z : Place) → Hit gs (mix p q y z) z → Hit gs y z
+    from_right gs p q y z h = again h (h.α * p) (h.α * q + h.β) (omega arith) (omega arith) (omega arith)
 
     -- draws y and z together until they lie in one cell; z is at most f cells further than y
     split : (gs : List Part) → Solver gs → (f m : ℕ) (y z : Place) → In y m → 0 < z.scale → z.moved ≤ z.scale * (m + 1 + f) →
@@ -169,8 +169,8 @@ module _ (c : Case) where
           let x_pos : 0 < x.scale = omega (arith, mul-pos some iy.scale) in
           elim (dec_le (end x gs).force (F * (end x gs).scale)) [
             | yes light ↦
-                from-right gs p q y z (split gs solve f (m + 1) x z (starts x_pos whole) pos (omega arith) (behind_right p q y z b) light high)
-            | no heavy ↦ from-left gs p q y z (solve m y x iy (ends x_pos whole) (behind_left p q y z b) low (omega arith))
+                from_right gs p q y z (split gs solve f (m + 1) x z (starts x_pos whole) pos (omega arith) (behind_right p q y z b) light high)
+            | no heavy ↦ from_left gs p q y z (solve m y x iy (ends x_pos whole) (behind_left p q y z b) low (omega arith))
           ])
     ]
 
@@ -231,10 +231,10 @@ module _ (c : Case) where
         node = node_of (mix (S * h.α) (S * h.β) y z);
         above = h.node ∷ h.above;
         positive = h.positive;
-        scale-is = omega arith;
-        moved-is = refl;
-        force-is = refl;
-        shaft = (joins g m y z iy iz h.α h.β h.scale h.node h.positive h.scale-is h.moved-is h.force-is, h.shaft);
+        scale_is = omega arith;
+        moved_is = refl;
+        force_is = refl;
+        shaft = (joins g m y z iy iz h.α h.β h.scale h.node h.positive h.scale_is h.moved_is h.force_is, h.shaft);
         head = h.head;
       }
 
@@ -255,26 +255,26 @@ module _ (c : Case) where
       solves (g ∷ gs) = step g gs (solves gs)
 
       -- the place of a tip that has moved s
-      abbrev tip-at : ℕ → Place
-      tip-at s = record { scale = 1; moved = s; force = c.body.tip_area * tip_v c s }
+      abbrev tip_at : ℕ → Place
+      tip_at s = record { scale = 1; moved = s; force = c.body.tip_area * tip_v c s }
 
-      from-tips : (s : ℕ) → Hit F c.slices (tip-at s) (tip-at (s + 1)) → CarriesExactly c F
-      from-tips s h =
+      from_tips : (s : ℕ) → Hit F c.slices (tip_at s) (tip_at (s + 1)) → CarriesExactly c F
+      from_tips s h =
           let f = tip_v c in
           let up = tip_v_mono c ok in
           let k = h.α * 1 + h.β * 1 in
           let d = h.α * s + h.β * (s + 1) in
           let A = c.body.tip_area in
           let t = ceil d k in
-          let k-is : h.scale ≡ k = h.scale-is in
-          let d-is : h.node.displacement ≡ d = h.moved-is in
+          let k-is : h.scale ≡ k = h.scale_is in
+          let d-is : h.node.displacement ≡ d = h.moved_is in
           let pos : 0 < k = omega (arith, h.positive) in
           let one : Cell 1 s s = starts (omega arith) (omega arith) in
           let two : Cell 1 (s + 1) s = ends (omega arith) (omega arith) in
           let i : Cell k d s = cells h.α h.β 1 1 s (s + 1) s one two pos in
           let line : between f k d s ≡ h.α * between f 1 s s + h.β * between f 1 (s + 1) s = linear f up h.α h.β 1 1 s (s + 1) s one two in
           let line' : between f k d s ≡ h.α * f s + h.β * f (s + 1) = rw (← at_whole f up s, ← at_next f up s) line in
-          let force : h.node.force ≡ A * between f k d s = omega (arith, h.force-is, ap (λ (r : ℕ). A * r) line') in
+          let force : h.node.force ≡ A * between f k d s = omega (arith, h.force_is, ap (λ (r : ℕ). A * r) line') in
           let lo : k * f (d / k) ≤ between f k d s = least f up k d s i in
           let hi : between f k d s ≤ k * f t = most f up k d s d i (le_refl d) in
           let cap : f t ≤ c.body.tip_resistance = ok.tip.capped c.body.tip_soil c.body.tip_modulus c.body.tip_resistance c.body.diameter t in
@@ -326,26 +326,26 @@ module _ (c : Case) where
           (omega (arith, mul-le-mul_left S moved, mul-le-mul_right g.height force, mul-le-mul_left k (div-mul-le_self (n.force * g.height) S)))
           (omega (arith, mul-le-mul_left S force, mul-le-mul_left (S * skin c g) gain))
 
-      found : (s : ℕ) → F * (end (tip-at s) c.slices).scale < (end (tip-at s) c.slices).force → CarriesExactly c F
+      found : (s : ℕ) → F * (end (tip_at s) c.slices).scale < (end (tip_at s) c.slices).force → CarriesExactly c F
       found zero high =
           let rest : tip_v c 0 ≡ 0 = ok.tip.rest c.body.tip_soil c.body.tip_modulus c.body.tip_resistance c.body.diameter in
           let none : tip_v c 0 ≤ 0 = omega arith in
-          absurd (omega (arith, still c.slices (tip-at 0) (omega arith) (omega arith) (omega (arith, mul-le-mul_left c.body.tip_area none))))
-      found (suc s) high = elim (dec_le (end (tip-at s) c.slices).force (F * (end (tip-at s) c.slices).scale)) [
+          absurd (omega (arith, still c.slices (tip_at 0) (omega arith) (omega arith) (omega (arith, mul-le-mul_left c.body.tip_area none))))
+      found (suc s) high = elim (dec_le (end (tip_at s) c.slices).force (F * (end (tip_at s) c.slices).scale)) [
         | yes low ↦
             (let e : suc s ≡ s + 1 = omega arith in
-            let over : High F c.slices (tip-at (suc s)) = omega arith in
+            let over : High F c.slices (tip_at (suc s)) = omega arith in
             let up : tip_v c s ≤ tip_v c (s + 1) = tip_v_mono c ok s (s + 1) (omega arith) in
-            from-tips s
-            (solves c.slices s (tip-at s) (tip-at (s + 1))
+            from_tips s
+            (solves c.slices s (tip_at s) (tip_at (s + 1))
             (starts (omega arith) (omega arith)) (ends (omega arith) (omega arith))
             (record { moved = omega arith; force = omega (arith, mul-le-mul_left c.body.tip_area up) })
-            low (subst (λ (r : ℕ). High F c.slices (tip-at r)) e over)))
+            low (subst (λ (r : ℕ). High F c.slices (tip_at r)) e over)))
         | no h ↦ found s (omega arith)
       ]
 
 pub some_column : (c : Case) → Sound c → (T F hi : ℕ) → IsUpperTip c T F hi → CarriesExactly c F
 some_column c ok T F hi is =
-    let y = tip-at c ok F hi in
+    let y = tip_at c ok F hi in
     let top = dominates c ok F c.slices (lower_tip c hi) y (omega arith) (omega arith) (omega arith) in
     found c ok F hi (omega (arith, mul-lt-mul_of_pos_right is.above top.0))

@@ -25,23 +25,23 @@ module _ (c : Case) (ok : Sound c) where
   tip_w_mono s t h = raised_mono (tip_v c s) (tip_v c t) c.body.tip_resistance (tip_v_mono s t h)
 
   module _ (k : ℕ) (pos : 0 < k) where
-    pub lower-next : (g : Part) (low n m : Node) → AtLeast k low n → SliceBalance c k g n m → AtLeast k (lower_step c g low) m
-    lower-next g low n m h b = record {
+    pub lower_next : (g : Part) (low n m : Node) → AtLeast k low n → SliceBalance c k g n m → AtLeast k (lower_step c g low) m
+    lower_next g low n m h b = record {
       displacement = lower_moved k c.body.stiffness g.height low.displacement low.force n.displacement n.force m.displacement ok.stiff h.displacement h.force b.shortening_least;
       force = lower_loaded k (skin c g) (shaft_v c g low.displacement) (shaft_v c g (n.displacement / k)) low.force n.force m.force h.force
           (shaft_v_mono g low.displacement (n.displacement / k) (floor_least k low.displacement n.displacement pos h.displacement)) b.force_least;
     }
 
-    pub lower-shaft : (low n : Node) (gs : List Part) (ms : List Node) → AtLeast k low n → ShaftBalance c k n gs ms → Each (AtLeast k) (climb (lower_step c) low gs) ms
-    lower-shaft low n [] [] h b = tt
-    lower-shaft low n [] (m ∷ ms) h b = absurd b
-    lower-shaft low n (g ∷ gs) [] h b = absurd b
-    lower-shaft low n (g ∷ gs) (m ∷ ms) h b =
-        let next = lower-next g low n m h b.0 in
-        (next, lower-shaft (lower_step c g low) m gs ms next b.1)
+    pub lower_shaft : (low n : Node) (gs : List Part) (ms : List Node) → AtLeast k low n → ShaftBalance c k n gs ms → Each (AtLeast k) (climb (lower_step c) low gs) ms
+    lower_shaft low n [] [] h b = tt
+    lower_shaft low n [] (m ∷ ms) h b = absurd b
+    lower_shaft low n (g ∷ gs) [] h b = absurd b
+    lower_shaft low n (g ∷ gs) (m ∷ ms) h b =
+        let next = lower_next g low n m h b.0 in
+        (next, lower_shaft (lower_step c g low) m gs ms next b.1)
 
-    upper-next : (g : Part) (high n m : Node) → AtMost k high n → SliceBalance c k g n m → AtMost k (upper_step c g high) m
-    upper-next g high n m h b =
+    upper_next : (g : Part) (high n m : Node) → AtMost k high n → SliceBalance c k g n m → AtMost k (upper_step c g high) m
+    upper_next g high n m h b =
         let S = c.body.stiffness in
         let capped : shaft_w c g (ceil m.displacement k) ≤ g.friction = omega arith in
         let most : m.force ≤ k * (high.force + skin c g * g.friction) =
@@ -56,13 +56,13 @@ module _ (c : Case) (ok : Sound c) where
           force = force;
         }
 
-    pub upper-shaft : (high n : Node) (gs : List Part) (ms : List Node) → AtMost k high n → ShaftBalance c k n gs ms → Each (AtMost k) (climb (upper_step c) high gs) ms
-    upper-shaft high n [] [] h b = tt
-    upper-shaft high n [] (m ∷ ms) h b = absurd b
-    upper-shaft high n (g ∷ gs) [] h b = absurd b
-    upper-shaft high n (g ∷ gs) (m ∷ ms) h b =
-        let next = upper-next g high n m h b.0 in
-        (next, upper-shaft (upper_step c g high) m gs ms next b.1)
+    pub upper_shaft : (high n : Node) (gs : List Part) (ms : List Node) → AtMost k high n → ShaftBalance c k n gs ms → Each (AtMost k) (climb (upper_step c) high gs) ms
+    upper_shaft high n [] [] h b = tt
+    upper_shaft high n [] (m ∷ ms) h b = absurd b
+    upper_shaft high n (g ∷ gs) [] h b = absurd b
+    upper_shaft high n (g ∷ gs) (m ∷ ms) h b =
+        let next = upper_next g high n m h b.0 in
+        (next, upper_shaft (upper_step c g high) m gs ms next b.1)
 
   -- the two dominances
   pub above_lower : (k s : ℕ) (x : Nodes) → Balanced c k x → k * s ≤ x.tip.displacement → Every (AtLeast k) (lower_march c s) x
@@ -72,7 +72,7 @@ module _ (c : Case) (ok : Sound c) where
         displacement = h;
         force = le_trans (mul-le-mul_left k (mul-le-mul_left c.body.tip_area (tip_v_mono s (d / k) (floor_least k s d b.scale h)))) b.tip.at_least;
       } in
-      (at, lower-shaft k b.scale (lower_tip c s) x.tip c.slices x.above at b.shaft)
+      (at, lower_shaft k b.scale (lower_tip c s) x.tip c.slices x.above at b.shaft)
 
   pub below_upper : (k s : ℕ) (x : Nodes) → Balanced c k x → x.tip.displacement ≤ k * s → Every (AtMost k) (upper_march c s) x
   below_upper k s x b h =
@@ -81,7 +81,7 @@ module _ (c : Case) (ok : Sound c) where
         displacement = h;
         force = le_trans b.tip.at_most (mul-le-mul_left k (mul-le-mul_left c.body.tip_area (tip_w_mono (ceil d k) s (ceil_most k s d b.scale h))));
       } in
-      (at, upper-shaft k b.scale (upper_tip c s) x.tip c.slices x.above at b.shaft)
+      (at, upper_shaft k b.scale (upper_tip c s) x.tip c.slices x.above at b.shaft)
 
   -- .. at the head
   pub ends_above : (k s : ℕ) (x : Nodes) → Balanced c k x → k * s ≤ x.tip.displacement → k * lower_end c s ≤ end_force x

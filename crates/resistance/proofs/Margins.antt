@@ -23,11 +23,11 @@ heights (s ∷ ss) = s.height + heights ss
 heights_fill : (d : ℕ) (ls : List Layer) → heights (parts_above d ls) ≡ min d (depth ls)
 unfolding heights
 heights_fill d [] = omega arith
-heights_fill d (l ∷ ls) = by-depth (ltb 0 d) refl (heights_fill (d - l.thickness) ls)
+heights_fill d (l ∷ ls) = by_depth (ltb 0 d) refl (heights_fill (d - l.thickness) ls)
   where
-    by-depth : (b : Bool) → ltb 0 d ≡ b → heights (parts_above (d - l.thickness) ls) ≡ min (d - l.thickness) (depth ls) → heights (cond b (record { height = min l.thickness d; layer = l } ∷ parts_above (d - l.thickness) ls) []) ≡ min d (l.thickness + depth ls)
-    by-depth true e rest = omega (arith, rest)
-    by-depth false e rest = grind arith
+    by_depth : (b : Bool) → ltb 0 d ≡ b → heights (parts_above (d - l.thickness) ls) ≡ min (d - l.thickness) (depth ls) → heights (cond b (record { height = min l.thickness d; layer = l } ∷ parts_above (d - l.thickness) ls) []) ≡ min d (l.thickness + depth ls)
+    by_depth true e rest = omega (arith, rest)
+    by_depth false e rest = grind arith
 
 module _ (tolerance : ℕ) (fraction : ℕ → ℕ → ℕ → Option Fraction) (answer : ℕ → ℕ → ℕ → Option ℕ) (agrees : (soil category p : ℕ) → Agrees tolerance (fraction soil category p) (answer soil category p)) where
   -- the friction of one part

@@ -72,11 +72,11 @@ marked : (n : PileNumbers) → (eqb n.mark 1 && outside vibrodriven_limits n.cat
 marked n e h = grind arith
 
 unmarked : (n : PileNumbers) → (n.mark ≡ 1 → Within vibrodriven_limits n.category) → Within mark_limits n.mark → (eqb n.mark 1 && outside vibrodriven_limits n.category) ≡ false
-unmarked n h k = by-mark (eqb n.mark 1) refl
+unmarked n h k = by_mark (eqb n.mark 1) refl
   where
-    by-mark : (b : Bool) → eqb n.mark 1 ≡ b → (b && outside vibrodriven_limits n.category) ≡ false
-    by-mark false e = refl
-    by-mark true e = let w = h (eqb-true n.mark 1 e) in grind arith
+    by_mark : (b : Bool) → eqb n.mark 1 ≡ b → (b && outside vibrodriven_limits n.category) ≡ false
+    by_mark false e = refl
+    by_mark true e = let w = h (eqb-true n.mark 1 e) in grind arith
 
 takes_pile : (n : PileNumbers) → pile_flaw n ≡ None → TakesPile n
 takes_pile n e =
@@ -140,12 +140,12 @@ module _ (m : Meaning) (agrees : (soil category p : ℕ) → Agrees m.tolerance 
       let a = or_none _ _ e in
       let b = or_none _ _ a.0 in
       let c = or_none _ _ b.1 in
-      by-driven s.pile refl (within load_limits q.load _ b.0) (within factor_limits q.model_factor _ c.0) (within factor_limits q.resistance_factor _ c.1) a.1
+      by_driven s.pile refl (within load_limits q.load _ b.0) (within factor_limits q.model_factor _ c.0) (within factor_limits q.resistance_factor _ c.1) a.1
     where
-      by-driven : (o : Option PileNumbers) → s.pile ≡ o → Within load_limits q.load → Within factor_limits q.model_factor → Within factor_limits q.resistance_factor
+      by_driven : (o : Option PileNumbers) → s.pile ≡ o → Within load_limits q.load → Within factor_limits q.model_factor → Within factor_limits q.resistance_factor
           → by_pile o (Some NoPile) (site_refusal m.answer s.layers) ≡ None → TakesJudging m s q
-      by-driven None is l f g e = absurd (let z : ◌≡◌ {A = ℕ} 0 1 = cc in omega arith)
-      by-driven (Some n) is l f g e =
+      by_driven None is l f g e = absurd (let z : ◌≡◌ {A = ℕ} 0 1 = cc in omega arith)
+      by_driven (Some n) is l f g e =
           let d = or_none _ _ e in
           record {
             load_fits = l;

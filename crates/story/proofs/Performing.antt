@@ -22,29 +22,29 @@ module _ {R L : Type 0} (meaning : Study R L → Meaning) where
       subst (λ (x : Plain). Performs meaning s x a t) (sym e) (subst (λ (x : Answer). Performs meaning s c x t) (sym f) p)
 
   module _ (agrees : (s : Study R L) (soil category p : ℕ) → Agrees (meaning s).tolerance ((meaning s).fraction soil category p) ((meaning s).answer soil category p)) where
-    pub performs-change : (s t : Study R L) (c : Plain) (r : Result (Unit {0}) Refusal) → refusal_of (meaning s) (site_of s) c ≡ change_refusal (site_of s) c
+    pub performs_change : (s t : Study R L) (c : Plain) (r : Result (Unit {0}) Refusal) → refusal_of (meaning s) (site_of s) c ≡ change_refusal (site_of s) c
         → answer_of (meaning s) (site_of s) c ≡ Done → Obeys s c r t → Performs meaning s c (said r) t
-    performs-change s t c (Ok _) q d o =
+    performs_change s t c (Ok _) q d o =
         record {
           step = inl (grant (meaning s) (agrees s) (site_of s) c Done (q ∙ o.changes.0) (sym d), o.changes.1);
           kept = o.kept;
           unchanged = λ r e. absurd (let z : ◌≡◌ {A = ℕ} 0 1 = cc in omega arith);
         }
-    performs-change s t c (Err e) q d o =
+    performs_change s t c (Err e) q d o =
         record {
           step = inr (deny (meaning s) (agrees s) (site_of s) c e (q ∙ o.changes.0), ap site_of o.changes.1);
           kept = o.kept;
           unchanged = λ r z. o.changes.1;
         }
 
-    pub performs-judge : (s : Study R L) (q : Question) (j : Judgement) → judge_refusal (meaning s).answer (site_of s) q ≡ None → JudgedOn (meaning s) (site_of s) q j
+    pub performs_judge : (s : Study R L) (q : Question) (j : Judgement) → judge_refusal (meaning s).answer (site_of s) q ≡ None → JudgedOn (meaning s) (site_of s) q j
         → Performs meaning s (Judge q) (Judged j) s
-    performs-judge s q j e h =
+    performs_judge s q j e h =
         record {
           step = inl (grant (meaning s) (agrees s) (site_of s) (Judge q) (Judged j) e (ap Judged h.same), refl);
           kept = (refl, refl);
           unchanged = λ r z. refl;
         }
 
-    pub performs-refused : (s : Study R L) (c : Plain) (r : Refusal) → refusal_of (meaning s) (site_of s) c ≡ Some r → Performs meaning s c (Refused r) s
-    performs-refused s c r e = record { step = inr (deny (meaning s) (agrees s) (site_of s) c r e, refl); kept = (refl, refl); unchanged = λ x z. refl }
+    pub performs_refused : (s : Study R L) (c : Plain) (r : Refusal) → refusal_of (meaning s) (site_of s) c ≡ Some r → Performs meaning s c (Refused r) s
+    performs_refused s c r e = record { step = inr (deny (meaning s) (agrees s) (site_of s) c r e, refl); kept = (refl, refl); unchanged = λ x z. refl }

@@ -34,7 +34,7 @@ module _ {R L : Type 0} (meaning : Study R L → Meaning) (agrees : (s : Study R
         told = told;
         lived = lived (meaning s) (site_of s) calls answers (placed (meaning s) (agrees s) told);
         born = born s;
-        as-made = λ e. subst (λ (x : Site). Answered (meaning s) x calls answers) e (placed (meaning s) (agrees s) told);
+        as_made = λ e. subst (λ (x : Site). Answered (meaning s) x calls answers) e (placed (meaning s) (agrees s) told);
         leaves = leaves (meaning s) (agrees s) told;
         kept = kept;
       }

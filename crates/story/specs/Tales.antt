@@ -27,7 +27,7 @@ module _ {R L : Type 0} (meaning : Study R L → Meaning) where
     -- there is such an earlier life
     pub born : (before : List Plain) × (left_by bare before ≡ site_of s)
     -- place by place, for a study as made
-    pub as-made : site_of s ≡ bare → Answered (meaning s) bare calls answers
+    pub as_made : site_of s ≡ bare → Answered (meaning s) bare calls answers
     -- what is left is reckoned from the calls' arguments
     pub leaves : site_of t ≡ left_by (site_of s) calls
     pub kept : Kept s t

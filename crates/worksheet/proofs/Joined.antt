@@ -34,10 +34,10 @@ not_whole x some solid (inr w) =
 
 pub cut_join : (a b : List ℕ) (xs ys : List (List ℕ)) → WholeLines a → Cut a xs → Cut b ys → Cut (a ++ b) (xs ++ ys)
 cut_join a b [] ys w e k = subst (λ (t : List ℕ). Cut (t ++ b) ys) (sym (nil_from_length a e)) k
-cut_join a b (x ∷ xs) ys w (rest, l, c) k = by-cut l.cut (λ v. cut_join rest b xs ys v c k)
+cut_join a b (x ∷ xs) ys w (rest, l, c) k = by_cut l.cut (λ v. cut_join rest b xs ys v c k)
   where
-    by-cut : (a ≡ x ++ (10 ∷ rest)) ⊎ ((a ≡ x) × (rest ≡ [])) → (WholeLines rest → Cut (rest ++ b) (xs ++ ys)) → Cut (a ++ b) (x ∷ (xs ++ ys))
-    by-cut (inl e) go = (
+    by_cut : (a ≡ x ++ (10 ∷ rest)) ⊎ ((a ≡ x) × (rest ≡ [])) → (WholeLines rest → Cut (rest ++ b) (xs ++ ys)) → Cut (a ++ b) (x ∷ (xs ++ ys))
+    by_cut (inl e) go = (
       rest ++ b,
       record {
         solid = l.solid;
@@ -46,7 +46,7 @@ cut_join a b (x ∷ xs) ys w (rest, l, c) k = by-cut l.cut (λ v. cut_join rest 
       },
       go (after_feed x rest (subst (λ (t : List ℕ). WholeLines t) e w)),
     )
-    by-cut (inr e) go = absurd (not_whole x (omega (arith, l.some, ap length e.0)) l.solid (subst (λ (t : List ℕ). WholeLines t) e.0 w))
+    by_cut (inr e) go = absurd (not_whole x (omega (arith, l.some, ap length e.0)) l.solid (subst (λ (t : List ℕ). WholeLines t) e.0 w))
 
 module _ {R L : Type 0} (meaning : Study R L → Meaning) (agrees : (s : Study R L) (soil category p : ℕ) → Agrees (meaning s).tolerance ((meaning s).fraction soil category p) ((meaning s).answer soil category p)) where
   pub pieces_join : ((s u : Study R L) → rule_of u ≡ rule_of s → meaning u ≡ meaning s) → PiecesJoin meaning
