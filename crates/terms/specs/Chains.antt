@@ -11,6 +11,11 @@ abbrev pub or_else : {X : Type 0} → Option X → Option X → Option X
 or_else (Some x) o = Some x
 or_else None o = o
 
+-- granted, unless there is a refusal
+abbrev pub unless : Option Refusal → Result (Unit {0}) Refusal
+unless (Some e) = Err e
+unless None = Ok tt
+
 -- a refusal leaves the whole of the old as it was; where there is none, what is left shows the new
 abbrev pub Changes : {G X : Type 0} → (G → X) → Option Refusal → G → X → Result (Unit {0}) Refusal → G → Type 0
 Changes view refusal old new (Ok _) left = (refusal ≡ None) × (view left ≡ new)

@@ -1,4 +1,5 @@
 pub mod Limits
 pub mod Refusals
 pub mod Chains
+pub mod Soils
 pub mod Fractions

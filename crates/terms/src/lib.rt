@@ -3,5 +3,6 @@
 
 pub mod limits;
 pub mod refusal;
+pub mod soil;
 #[cfg(test)]
 mod tests;

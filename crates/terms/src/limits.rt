@@ -1,6 +1,9 @@
 // The limits of every number that a caller gives, each once.
 ghost use Rattle.std.specs.Prelude.{◌≡◌};
 ghost use Rattle.terms.specs.Limits.{outside, nearest};
+ghost use Rattle.terms.specs.Chains.{when, unless};
+
+use crate::refusal::Refusal;
 
 // A whole number from `least` to `most`, both included.
 #[derive(Clone, Copy, PartialEq, Eq, Debug)]
@@ -14,6 +17,16 @@ impl Limits {
         ensures { result ≡ outside self x }
     {
         x < self.least || x > self.most
+    }
+
+    // That refusal for a number outside.
+    pub fn admit(self, x: u64, refusal: Refusal) -> Result<(), Refusal>
+        ensures { result ≡ unless (when (outside self x) refusal) }
+    {
+        if self.excludes(x) {
+            return Err(refusal);
+        }
+        Ok(())
     }
 
     // `x`, or the limit that is nearest to it.
