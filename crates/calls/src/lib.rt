@@ -1,7 +1,10 @@
 // What is said to a study and what it answers, as plain data.
 #![tactic(auto)]
 
-use ground::layer::Layer;
+ghost use Rattle.std.specs.Prelude.{◌≡◌, MatchResult};
+ghost use Rattle.calls.specs.declared.Answer.TheVariants.{Done, Refused, Judged};
+
+use ground::layer::{Amendment, Layer};
 use pile::numbers::PileNumbers;
 use terms::refusal::Refusal;
 
@@ -40,12 +43,8 @@ pub struct Settlement {
 pub enum Call {
     // One more layer below.
     Lay(Layer),
-    // A new pressure and modulus for the layer of that index, counted from 0.
-    Amend {
-        index: u64,
-        pressure: u64,
-        modulus: u64,
-    },
+    // A new pressure and modulus for the layer of that index.
+    Amend(Amendment),
     // The lowest layer removed.
     Lift,
     // The pile set.
@@ -61,4 +60,32 @@ pub enum Answer {
     // Nothing was changed.
     Refused(Refusal),
     Judged(Judgement),
+}
+
+impl From<()> for Answer {
+    ghost from_gives = { λ _ answer. answer ≡ Done };
+
+    fn from(_done: ()) -> Answer {
+        Answer::Done
+    }
+}
+
+impl From<Judgement> for Answer {
+    ghost from_gives = { λ judgement answer. answer ≡ Judged judgement };
+
+    fn from(judgement: Judgement) -> Answer {
+        Answer::Judged(judgement)
+    }
+}
+
+// What a call came to: what it granted, or why it was refused.
+impl<T: Into<Answer>> From<Result<T, Refusal>> for Answer {
+    ghost from_gives = { λ outcome answer. MatchResult outcome (λ granted. T.converts granted answer) (λ refusal. answer ≡ Refused refusal) };
+
+    fn from(outcome: Result<T, Refusal>) -> Answer {
+        match outcome {
+            Ok(granted) => granted.into(),
+            Err(refusal) => Answer::Refused(refusal),
+        }
+    }
 }

@@ -1,5 +1,6 @@
 -- What depth and soundness become under one change.
-use Rattle.std.proofs.Common.{◌≡◌, ℕ, zero, suc, ◌+◌, ◌<◌, ◌≤◌, true, false, List, [], ◌∷◌, ◌++◌, length, get_or, take, set, refl, ap, arith}
+use Rattle.std.proofs.Common.{◌≡◌, ℕ, zero, suc, ◌+◌, ◌<◌, ◌≤◌, true, false, List, [], ◌∷◌, ◌++◌, length, get_or, take, set, sum_by, refl, sym, ap, ◌∙◌, arith}
+use Rattle.std.proofs.lemmas.List.Sums.{sum_by-cons}
 use Rattle.std.proofs.lemmas.Bool.{and_parts, and_from}
 use Rattle.ground.specs.declared.layer.Layer.{Layer}
 use Rattle.terms.specs.Limits.{outside, pressure_limits, modulus_limits}
@@ -9,6 +10,11 @@ use Rattle.ground.specs.Edits.{revised}
 pub depth_push : (ls : List Layer) (l : Layer) → depth (ls ++ l ∷ []) ≡ depth ls + l.thickness
 depth_push [] l = omega arith
 depth_push (k ∷ ls) l = omega (arith, depth_push ls l)
+
+-- the depth as the library's sum
+pub depth_sum : (ls : List Layer) → depth ls ≡ sum_by (λ l. l.thickness) ls
+depth_sum [] = refl
+depth_sum (l ∷ ls) = ap (λ n. l.thickness + n) (depth_sum ls) ∙ sym (sum_by-cons (λ l. l.thickness) l ls)
 
 pub depth_take : (n : ℕ) (ls : List Layer) → depth (take n ls) ≤ depth ls
 depth_take zero ls = omega arith

@@ -1,5 +1,6 @@
 // One layer, as the site engineer gives it.
 ghost use Rattle.std.specs.Prelude.{◌≡◌};
+ghost use Rattle.terms.specs.Chains.{unless};
 ghost use Rattle.ground.specs.Layers.{layer_flaw};
 
 use terms::limits::{CEILING, MODULUS, PRESSURE, SOIL, THICKNESS};
@@ -21,25 +22,25 @@ pub struct Layer {
 }
 
 impl Layer {
-    // The first number outside its limits.
-    pub fn flaw(&self) -> Option<Refusal>
-        ensures { result ≡ layer_flaw self.now }
+    // Refused for the first number outside its limits.
+    pub fn check(&self) -> Result<(), Refusal>
+        ensures { result ≡ unless (layer_flaw self.now) }
     {
-        if SOIL.excludes(self.soil) {
-            return Some(Refusal::LayerNumber { field: 1 });
-        }
-        if THICKNESS.excludes(self.thickness) {
-            return Some(Refusal::LayerNumber { field: 2 });
-        }
-        if PRESSURE.excludes(self.pressure) {
-            return Some(Refusal::LayerNumber { field: 3 });
-        }
-        if MODULUS.excludes(self.modulus) {
-            return Some(Refusal::LayerNumber { field: 4 });
-        }
-        if CEILING.excludes(self.ceiling) {
-            return Some(Refusal::LayerNumber { field: 5 });
-        }
-        None
+        SOIL.admit(self.soil, Refusal::LayerNumber { field: 1 })?;
+        THICKNESS.admit(self.thickness, Refusal::LayerNumber { field: 2 })?;
+        PRESSURE.admit(self.pressure, Refusal::LayerNumber { field: 3 })?;
+        MODULUS.admit(self.modulus, Refusal::LayerNumber { field: 4 })?;
+        CEILING.admit(self.ceiling, Refusal::LayerNumber { field: 5 })
     }
+}
+
+// A new pressure and modulus for a layer; any three numbers.
+#[derive(Clone, Copy, PartialEq, Eq, Debug)]
+pub struct Amendment {
+    // of the layer, counted from 0
+    pub index: u64,
+    // net limit pressure, kPa
+    pub pressure: u64,
+    // Ménard modulus, kPa
+    pub modulus: u64,
 }

@@ -1,5 +1,5 @@
 // What a ground takes and what it refuses, at the ends of the limits.
-use crate::layer::Layer;
+use crate::layer::{Amendment, Layer};
 use crate::table::Ground;
 use std::test::Fail;
 use terms::refusal::Refusal;
@@ -18,6 +18,14 @@ fn sand(thickness: u64) -> Layer {
     layer(2, thickness, 1_200, 9_000, 90)
 }
 
+fn amendment(index: u64, pressure: u64, modulus: u64) -> Amendment {
+    Amendment {
+        index,
+        pressure,
+        modulus,
+    }
+}
+
 #[test]
 fn refuses_each_number_outside_its_limits(rt: HostRuntime) {
     let refused = [
@@ -32,10 +40,10 @@ fn refuses_each_number_outside_its_limits(rt: HostRuntime) {
         (layer(5, 65_000, 10_000, 1_000_000, 501), 5),
     ];
     for (layer, field) in refused {
-        assert_eq!(rt; layer.flaw(), Some(Refusal::LayerNumber { field }));
+        assert_eq!(rt; layer.check(), Err(Refusal::LayerNumber { field }));
     }
-    assert_eq!(rt; layer(1, 100, 0, 100, 1).flaw(), None);
-    assert_eq!(rt; layer(5, 65_000, 10_000, 1_000_000, 500).flaw(), None);
+    assert_eq!(rt; layer(1, 100, 0, 100, 1).check(), Ok(()));
+    assert_eq!(rt; layer(5, 65_000, 10_000, 1_000_000, 500).check(), Ok(()));
 }
 
 #[test]
@@ -68,7 +76,7 @@ fn reaches_100_m(rt: HostRuntime) -> Result<(), Fail> {
 fn amends_one_layer(rt: HostRuntime) -> Result<(), Fail> {
     let mut ground = Ground::new(rt.alloc())?;
     ground.replace(&[sand(3_000), sand(4_000), sand(5_000)])?;
-    ground.amend(1, 10_000, 100)?;
+    ground.amend(amendment(1, 10_000, 100))?;
     let amended = layer(2, 4_000, 10_000, 100, 90);
     assert_eq!(rt;
         ground.layers(),
@@ -81,13 +89,16 @@ fn amends_one_layer(rt: HostRuntime) -> Result<(), Fail> {
 fn refuses_to_amend(rt: HostRuntime) -> Result<(), Fail> {
     let mut ground = Ground::new(rt.alloc())?;
     ground.lay(sand(3_000))?;
-    assert_eq!(rt; ground.amend(1, 10_001, 99), Err(Refusal::NoLayerToAmend));
     assert_eq!(rt;
-        ground.amend(0, 10_001, 99),
+        ground.amend(amendment(1, 10_001, 99)),
+        Err(Refusal::NoLayerToAmend)
+    );
+    assert_eq!(rt;
+        ground.amend(amendment(0, 10_001, 99)),
         Err(Refusal::LayerNumber { field: 2 })
     );
     assert_eq!(rt;
-        ground.amend(0, 10_000, 99),
+        ground.amend(amendment(0, 10_000, 99)),
         Err(Refusal::LayerNumber { field: 3 })
     );
     Ok(())

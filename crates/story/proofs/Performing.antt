@@ -1,6 +1,7 @@
 -- What each call's contract says, as one step of a story.
-use Rattle.std.proofs.Common.{◌≡◌, ℕ, Some, None, Ok, Err, Result, sym, refl, ap, ◌∙◌, subst, inl, inr, arith}
+use Rattle.std.proofs.Common.{◌≡◌, ℕ, Ok, Err, Result, MatchResult, sym, refl, ap, ◌∙◌, subst, inl, inr, arith}
 use Rattle.terms.specs.declared.refusal.Refusal.{Refusal}
+use Rattle.terms.specs.Chains.{Answers}
 use Rattle.friction.specs.Rule.{Agrees}
 use Rattle.calls.specs.declared.Answer.{Answer}
 use Rattle.calls.specs.declared.Answer.TheVariants.{Done, Refused, Judged}
@@ -12,7 +13,6 @@ use Rattle.study.specs.Sites.Plain.{Judge}
 use Rattle.study.specs.Rules.{Meaning, judge_refusal, JudgedOn}
 use Rattle.study.specs.Views.{site_of, Obeys}
 use Rattle.story.specs.Story.{refusal_of, answer_of}
-use Rattle.story.specs.Says.{said}
 use Rattle.story.specs.Tales.{Performs}
 use Rattle.story.proofs.Grants.{grant, deny}
 
@@ -22,29 +22,34 @@ module _ {R L : Type 0} (meaning : Study R L → Meaning) where
       subst (λ (x : Plain). Performs meaning s x a t) (sym e) (subst (λ (x : Answer). Performs meaning s c x t) (sym f) p)
 
   module _ (agrees : (s : Study R L) (soil category p : ℕ) → Agrees (meaning s).tolerance ((meaning s).fraction soil category p) ((meaning s).answer soil category p)) where
-    pub performs_change : (s t : Study R L) (c : Plain) (r : Result (Unit {0}) Refusal) → refusal_of (meaning s) (site_of s) c ≡ change_refusal (site_of s) c
-        → answer_of (meaning s) (site_of s) c ≡ Done → Obeys s c r t → Performs meaning s c (said r) t
-    performs_change s t c (Ok _) q d o =
-        record {
+    -- a change, and what its result is told as
+    pub performs_change : (s t : Study R L) (k c : Plain) (r : Result (Unit {0}) Refusal) (a : Answer) → k ≡ c → MatchResult r (λ _. a ≡ Done) (λ e. a ≡ Refused e)
+        → refusal_of (meaning s) (site_of s) c ≡ change_refusal (site_of s) c → answer_of (meaning s) (site_of s) c ≡ Done → Obeys s c r t → Performs meaning s k a t
+    performs_change s t k c (Ok _) a e f q d o =
+        performs_as s t k c a Done e f
+        (record {
           step = inl (grant (meaning s) (agrees s) (site_of s) c Done (q ∙ o.changes.0) (sym d), o.changes.1);
           kept = o.kept;
           unchanged = λ r e. absurd (let z : ◌≡◌ {A = ℕ} 0 1 = cc in omega arith);
-        }
-    performs_change s t c (Err e) q d o =
-        record {
-          step = inr (deny (meaning s) (agrees s) (site_of s) c e (q ∙ o.changes.0), ap site_of o.changes.1);
+        })
+    performs_change s t k c (Err r) a e f q d o =
+        performs_as s t k c a (Refused r) e f
+        (record {
+          step = inr (deny (meaning s) (agrees s) (site_of s) c r (q ∙ o.changes.0), ap site_of o.changes.1);
           kept = o.kept;
           unchanged = λ r z. o.changes.1;
-        }
+        })
 
-    pub performs_judge : (s : Study R L) (q : Question) (j : Judgement) → judge_refusal (meaning s).answer (site_of s) q ≡ None → JudgedOn (meaning s) (site_of s) q j
-        → Performs meaning s (Judge q) (Judged j) s
-    performs_judge s q j e h =
-        record {
-          step = inl (grant (meaning s) (agrees s) (site_of s) (Judge q) (Judged j) e (ap Judged h.same), refl);
+    -- a question, and what its result is told as
+    pub performs_judge : (s : Study R L) (k : Plain) (q : Question) (r : Result Judgement Refusal) (a : Answer) → k ≡ Judge q → MatchResult r (λ j. a ≡ Judged j) (λ e. a ≡ Refused e)
+        → Answers (judge_refusal (meaning s).answer (site_of s) q) (JudgedOn (meaning s) (site_of s) q) r → Performs meaning s k a s
+    performs_judge s k q (Ok j) a e f h =
+        performs_as s s k (Judge q) a (Judged j) e f
+        (record {
+          step = inl (grant (meaning s) (agrees s) (site_of s) (Judge q) (Judged j) h.0 (ap Judged h.1.same), refl);
           kept = (refl, refl);
           unchanged = λ r z. refl;
-        }
-
-    pub performs_refused : (s : Study R L) (c : Plain) (r : Refusal) → refusal_of (meaning s) (site_of s) c ≡ Some r → Performs meaning s c (Refused r) s
-    performs_refused s c r e = record { step = inr (deny (meaning s) (agrees s) (site_of s) c r e, refl); kept = (refl, refl); unchanged = λ x z. refl }
+        })
+    performs_judge s k q (Err r) a e f h =
+        performs_as s s k (Judge q) a (Refused r) e f
+        (record { step = inr (deny (meaning s) (agrees s) (site_of s) (Judge q) r h, refl); kept = (refl, refl); unchanged = λ x z. refl })

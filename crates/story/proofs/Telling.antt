@@ -20,12 +20,13 @@ pub same_meaning : {R L : Type 0} (tolerance : ℕ) (fraction : R → ℕ → �
     → meaning tolerance fraction answer t ≡ meaning tolerance fraction answer s
 same_meaning {R} tolerance fraction answer s t e = ap (λ (r : R). record { tolerance = tolerance; fraction = fraction r; answer = answer r }) e
 
-pub told_more : (m k : Meaning) → k ≡ m → (first s t : Site) (calls : List Call) (answers : List Answer) (i : ℕ) (d : Call) (a : Answer) → i < length calls → i < length answers
-    → Told m first (map plain (take i calls)) (take i answers) s → Step k s (plain (get_or calls i d)) a t
+pub told_more : (m k : Meaning) → k ≡ m → (first s t : Site) (calls : List Call) (answers : List Answer) (i : ℕ) (d call : Call) (a : Answer) → call ≡ get_or calls i d → i < length calls → i < length answers
+    → Told m first (map plain (take i calls)) (take i answers) s → Step k s (plain call) a t
     → Told m first (map plain (take (i + 1) calls)) (take (i + 1) (set answers i a)) t
-told_more m k same first s t calls answers i d a h j told step =
+told_more m k same first s t calls answers i d call a here h j told step =
+    let step₁ = subst (λ (x : Call). Step k s (plain x) a t) here step in
     subst (λ cs. Told m first cs (take (i + 1) (set answers i a)) t) (sym (map_more plain calls i d h))
-    (subst (λ as₁. Told m first (map plain (take i calls) ++ plain (get_or calls i d) ∷ []) as₁ t) (sym (take_more_set answers i a j)) (join m told (told_one m s (plain (get_or calls i d)) a t (subst (λ (x : Meaning). Step x s (plain (get_or calls i d)) a t) same step))))
+    (subst (λ as₁. Told m first (map plain (take i calls) ++ plain (get_or calls i d) ∷ []) as₁ t) (sym (take_more_set answers i a j)) (join m told (told_one m s (plain (get_or calls i d)) a t (subst (λ (x : Meaning). Step x s (plain (get_or calls i d)) a t) same step₁))))
 
 module _ {R L : Type 0} (meaning : Study R L → Meaning) (agrees : (s : Study R L) (soil category p : ℕ) → Agrees (meaning s).tolerance ((meaning s).fraction soil category p) ((meaning s).answer soil category p)) where
   pub tale : (s t : Study R L) (calls : List Plain) (answers : List Answer) → Told (meaning s) (site_of s) calls answers (site_of t) → Kept s t → Tale meaning s calls answers t

@@ -2,7 +2,7 @@
 use crate::tell;
 use calls::{Answer, Call, Judgement, Question};
 use friction::pressuremeter::Pressuremeter;
-use ground::layer::Layer;
+use ground::layer::{Amendment, Layer};
 use pile::numbers::PileNumbers;
 use std::test::Fail;
 use study::holder::Study;
@@ -28,11 +28,11 @@ const QUESTION: Question = Question {
     resistance_factor: 1_100,
 };
 
-const AMEND: Call = Call::Amend {
+const AMEND: Call = Call::Amend(Amendment {
     index: 0,
     pressure: 2_000,
     modulus: 9_000,
-};
+});
 
 fn lay(thickness: u64, pressure: u64) -> Call {
     Call::Lay(Layer {

@@ -28,7 +28,7 @@ pub data Plain : Type 0 where
 
 abbrev pub plain : Call → Plain
 plain (code.Lay l) = Lay l
-plain (code.Amend i p m) = Amend i p m
+plain (code.Amend a) = Amend a.index a.pressure a.modulus
 plain code.Lift = Lift
 plain (code.Drive n) = Drive n
 plain (code.Judge q) = Judge q

@@ -2,7 +2,7 @@
 use crate::holder::Study;
 use calls::{Judgement, Question};
 use friction::pressuremeter::Pressuremeter;
-use ground::layer::Layer;
+use ground::layer::{Amendment, Layer};
 use pile::numbers::PileNumbers;
 use std::test::Fail;
 use terms::refusal::Refusal;
@@ -46,6 +46,14 @@ fn judged(kilonewtons: u64) -> Judgement {
     }
 }
 
+fn amendment(index: u64, pressure: u64, modulus: u64) -> Amendment {
+    Amendment {
+        index,
+        pressure,
+        modulus,
+    }
+}
+
 #[test]
 fn refusals_change_nothing(rt: HostRuntime) -> Result<(), Fail> {
     let mut study = Study::new(rt.alloc(), Pressuremeter, FrankZhao)?;
@@ -56,9 +64,12 @@ fn refusals_change_nothing(rt: HostRuntime) -> Result<(), Fail> {
         study.lay(Layer { soil: 6, ..SAND }),
         Err(Refusal::LayerNumber { field: 1 })
     );
-    assert_eq!(rt; study.amend(1, 100, 100), Err(Refusal::NoLayerToAmend));
     assert_eq!(rt;
-        study.amend(0, 100, 99),
+        study.amend(amendment(1, 100, 100)),
+        Err(Refusal::NoLayerToAmend)
+    );
+    assert_eq!(rt;
+        study.amend(amendment(0, 100, 99)),
         Err(Refusal::LayerNumber { field: 3 })
     );
     assert_eq!(rt;
@@ -84,7 +95,7 @@ fn judges_what_was_amended(rt: HostRuntime) -> Result<(), Fail> {
     let mut study = Study::new(rt.alloc(), Pressuremeter, FrankZhao)?;
     study.lay(SAND)?;
     study.drive(bored(1_000))?;
-    study.amend(0, 1_500, 10_000)?;
+    study.amend(amendment(0, 1_500, 10_000))?;
     assert_eq!(rt; study.judge(&PLAIN), Ok(judged(372)));
     Ok(())
 }

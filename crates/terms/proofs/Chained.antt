@@ -1,10 +1,10 @@
 -- A chain of conditions without a refusal: none of the conditions holds.
-use Rattle.std.proofs.Common.{◌≡◌, ℕ, Bool, true, false, not, ltb, is_some, Some, None, Option, refl, arith}
+use Rattle.std.proofs.Common.{◌≡◌, ℕ, Bool, true, false, not, ltb, is_some, Some, None, Option, Ok, Err, refl, arith}
 use Rattle.std.proofs.lemmas.Bool.{or_parts, ltb-false}
 use Rattle.terms.specs.declared.limits.Limits.{Limits}
 use Rattle.terms.specs.declared.refusal.Refusal.{Refusal}
 use Rattle.terms.specs.Limits.{outside, Within}
-use Rattle.terms.specs.Chains.{when, or_else}
+use Rattle.terms.specs.Chains.{when, or_else, unless}
 
 pub or_none : {X : Type 0} (a b : Option X) → or_else a b ≡ None → (a ≡ None) × (b ≡ None)
 or_none None b e = (refl, e)
@@ -13,6 +13,15 @@ or_none (Some x) b e = absurd (let z : ◌≡◌ {A = ℕ} 0 1 = cc in omega ari
 pub when_none : (b : Bool) (r : Refusal) → when b r ≡ None → b ≡ false
 when_none false r e = refl
 when_none true r e = absurd (let z : ◌≡◌ {A = ℕ} 0 1 = cc in omega arith)
+
+-- granted is without a refusal, and refused with that one
+pub granted : (o : Option Refusal) → Ok tt ≡ unless o → o ≡ None
+granted None e = refl
+granted (Some r) e = absurd (let z : ◌≡◌ {A = ℕ} 0 1 = cc in omega arith)
+
+pub refused : (o : Option Refusal) (r : Refusal) → Err r ≡ unless o → o ≡ Some r
+refused None r e = absurd (let z : ◌≡◌ {A = ℕ} 0 1 = cc in omega arith)
+refused (Some s) r e = cc
 
 pub or_free : {X : Type 0} (a b : Option X) → a ≡ None → b ≡ None → or_else a b ≡ None
 or_free None b e f = f

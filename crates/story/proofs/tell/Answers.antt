@@ -1,5 +1,5 @@
 use Rattle.std.proofs.Common.{◌≡◌, ℕ, ◌+◌, ◌<◌, map, length, take, drop, sym, refl, ap, ◌∙◌, subst, arith}
-use Rattle.std.proofs.lemmas.List.{drop-set-lt, drop-drop}
+use Rattle.std.proofs.lemmas.List.{drop-set-lt, drop-drop, length-take, get_or-take}
 use Rattle.study.specs.Sites.{plain}
 use Rattle.study.specs.Views.{site_of, rule_of, meaning}
 use Rattle.story.specs.Story.{Told}
@@ -19,11 +19,15 @@ loop-i-preserved g c =
     let was = c.loop-i.answers in
     let told = c.perform.ensures in
     let same : means c.loop-i.study ≡ means s = same_meaning g.R.FrictionRule.tolerance g.R.FrictionRule.fraction g.R.FrictionRule.answer s c.loop-i.study inv.0.0 in
-    let room : i < length was = omega arith in
-    let more : i < length c.args.calls.now = omega arith in (
+    let n = c.min-n.result in
+    let count = length-take n c.args.calls.now in
+    let within : i < n = omega (arith, count, c.loop-i-test.true) in
+    let room : i < length was = omega (arith, within) in
+    let more : i < length c.args.calls.now = omega (arith, within) in
+    let here = get_or-take n c.args.calls.now i _ within in (
       (told.kept.0 ∙ inv.0.0, told.kept.1 ∙ inv.0.1),
       drop-set-lt (i + 1) was i _ (omega arith) ∙ sym (drop-drop 1 i was) ∙ ap (drop 1) inv.1 ∙ drop-drop 1 i c.args.answers.now,
-      told_more (means s) (means c.loop-i.study) same (site_of s) (site_of c.loop-i.study) (site_of c.perform.new.study) c.args.calls.now was i _ c.perform.result more room inv.2 told.step,
+      told_more (means s) (means c.loop-i.study) same (site_of s) (site_of c.loop-i.study) (site_of c.perform.new.study) c.args.calls.now was i _ _ c.perform.result here more room inv.2 told.step,
     )
 
 pub returns : goal.returns
@@ -32,7 +36,7 @@ returns g c =
     let means = meaning g.R.FrictionRule.tolerance g.R.FrictionRule.fraction g.R.FrictionRule.answer in
     let inv = c.loop-i.invariant in
     let n = c.min-n.result in
-    let end : c.loop-i.i ≡ n = omega arith in
+    let end : c.loop-i.i ≡ n = omega (arith, length-take n c.args.calls.now, c.loop-i-test.false) in
     let told = subst (λ (k : ℕ). Told (means s) (site_of s) (map plain (take k c.args.calls.now)) (take k c.loop-i.answers) (site_of c.loop-i.study)) end inv.2 in
     record {
       many = c.min-n.ensures;

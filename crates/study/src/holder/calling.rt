@@ -9,7 +9,7 @@ ghost use Rattle.study.specs.Views.{site_of, rule_of, law_of, Obeys, meaning};
 use crate::holder::Study;
 use calls::{Judgement, Question};
 use friction::rule::FrictionRule;
-use ground::layer::Layer;
+use ground::layer::{Amendment, Layer};
 use ground::table::Ground;
 use pile::driven::Pile;
 use pile::numbers::PileNumbers;
@@ -42,10 +42,10 @@ impl<R: FrictionRule, L: TransferLaw> Study<R, L> {
     }
 
     // A new pressure and modulus for the layer of that index.
-    pub fn amend(&mut self, index: u64, pressure: u64, modulus: u64) -> Result<(), Refusal>
-        ensures { Obeys self.old (Amend index pressure modulus) result self.new }
+    pub fn amend(&mut self, amendment: Amendment) -> Result<(), Refusal>
+        ensures { Obeys self.old (Amend amendment.index amendment.pressure amendment.modulus) result self.new }
     {
-        self.ground.amend(index, pressure, modulus)
+        self.ground.amend(amendment)
     }
 
     // The lowest layer removed.
@@ -59,13 +59,8 @@ impl<R: FrictionRule, L: TransferLaw> Study<R, L> {
     pub fn drive(&mut self, numbers: PileNumbers) -> Result<(), Refusal>
         ensures { Obeys self.old (Drive numbers) result self.new }
     {
-        match Pile::new(numbers) {
-            Ok(pile) => {
-                self.pile = Some(pile);
-                Ok(())
-            }
-            Err(refusal) => Err(refusal),
-        }
+        self.pile = Some(Pile::new(numbers)?);
+        Ok(())
     }
 
     // Resistance, capacity and verdict.

@@ -1,4 +1,5 @@
 use Rattle.std.proofs.Common.{◌≡◌, None, vec_items, sym, ap, ◌∙◌, arith, rules}
+use Rattle.terms.proofs.Chained.{granted}
 use Rattle.ground.specs.Layers.{depth, sound}
 use Rattle.ground.specs.Edits.{lay_refusal}
 use Rattle.ground.proofs.Tables.{depth_push, sound_push}
@@ -9,7 +10,7 @@ pub invariant_of-self : goal.invariant_of-self
 invariant_of-self c =
     let old = c.args.self.now in
     let ls = vec_items old.layers in
-    let clear : lay_refusal ls c.args.layer ≡ None = ap (λ above. lay_refusal above c.args.layer) (sym c.layers.ensures.value) ∙ sym c.in_default.ensures in
+    let clear : lay_refusal ls c.args.layer ≡ None = ap (λ above. lay_refusal above c.args.layer) (sym c.layers.ensures.value) ∙ granted _ c.in_ok-admit.ensures in
     let here = layable ls c.args.layer clear in
     let left = c.push_reserved.ensures.items in
     record {
