@@ -1,6 +1,7 @@
 -- The sum of u^k/k! in Horner's way, exact and rounded.
 use Rattle.std.specs.Prelude.{◌≡◌, ℕ, zero, suc, ◌+◌, ◌-◌, ◌*◌, ◌/◌, ◌^◌, ◌<◌, ◌≤◌}
-use Rattle.std.proofs.Common.{sym, ap, ◌∙◌, le_trans, le_refl, add-zero, zero-add, mul-one, pow-suc, div-mul-le_self, mul-le-mul_left, mul-le-mul_right, mul-pos, le_of_mul-le-mul_right, arith}
+use Rattle.std.proofs.Common.{ap, ◌∙◌, le_trans, le_refl, add-zero, zero-add, pow-suc, div-mul-le_self, mul-le-mul_left, mul-le-mul_right, mul-pos, le_of_mul-le-mul_right, arith}
+use Rattle.std.proofs.lemmas.Grind.{common_steps}
 use Rattle.std.proofs.Math.Nat.{pow-zero, lt-div-mul-add}
 use Rattle.terms.specs.Fractions.{Near, ◌over◌}
 use Rattle.friction.specs.Series.{factorial, sum_to, horner}
@@ -25,10 +26,8 @@ top x d k (suc m) = above d k (suc m) + x * top x d (suc k) m
 
 bottom_is : (d n : ℕ) → bottom d n ≡ d ^ n * factorial n
 unfolding bottom factorial
-bottom_is d zero = sym (mul-one (d ^ 0) ∙ pow-zero d)
-bottom_is d (suc n) =
-    let step : (o f x : ℕ) → o ≡ x * f → o * (d * suc n) ≡ x * d * (suc n * f) = λ o f x e. rw e (omega arith) in
-    rw (pow-suc d n) (step (bottom d n) (factorial n) (d ^ n) (bottom_is d n))
+bottom_is d zero = grind (arith, common_steps)
+bottom_is d (suc n) = rw (pow-suc d n, bottom_is d n) (omega arith)
 
 bottom_pos : (d n : ℕ) → 0 < d → 0 < bottom d n
 unfolding bottom
@@ -52,12 +51,10 @@ joined : (x d k m : ℕ) → sums x d (k + m) + x ^ k * above d k m ≡ sums x d
 unfolding above top sums
 joined x d k zero = rw (add-zero k) (omega arith)
 joined x d k (suc m) =
-    let step : (S Sk E1 A1 X q : ℕ) → S + X * x * E1 ≡ (Sk * q + X * x) * E1 + X * x * A1 → S + X * (q * E1) ≡ Sk * (q * E1) + X * (q * E1 + x * A1) =
-    λ S Sk E1 A1 X q e. omega arith in
     let ih : sums x d (suc k + m) + x ^ k * x * above d (suc k) m ≡ (sums x d k * (d * suc k) + x ^ k * x) * above d (suc k) m + x ^ k * x * top x d (suc k) m =
     rw (← pow-suc x k) (joined x d (suc k) m) in
     let e : k + suc m ≡ suc k + m = omega arith in
-    rw e (step (sums x d (suc k + m)) (sums x d k) (above d (suc k) m) (top x d (suc k) m) (x ^ k) (d * suc k) ih)
+    rw e (omega arith)
 
 bottom_above : (d k m : ℕ) → bottom d (k + m) ≡ bottom d k * above d k m
 unfolding above bottom
@@ -91,9 +88,7 @@ horner_most scale x d k (suc m) =
     let f = x * h / q in
     let floor : f * q * e1 ≤ x * h * e1 = mul-le-mul_right e1 (div-mul-le_self (x * h) q) in
     let ih : x * (h * e1) ≤ x * (scale * a1) = mul-le-mul_left x (horner_most scale x d (suc k) m) in
-    let step : (f q h e1 a1 : ℕ) → f * q * e1 ≤ x * h * e1 → x * (h * e1) ≤ x * (scale * a1) → (scale + f) * (q * e1) ≤ scale * (q * e1 + x * a1) =
-    λ f q h e1 a1 u v. omega arith in
-    step f q h e1 a1 floor ih
+    omega arith
 
 horner_least : (scale x d k m : ℕ) → 0 < d → scale * top x d k m ≤ horner scale x d k m * above d k m + m * top x d k m
 unfolding horner above top
@@ -108,9 +103,7 @@ horner_least scale x d k (suc m) pos =
     let lost : x * h < f * q + q = lt-div-mul-add qpos in
     let lost1 : x * h * e1 ≤ (f * q + q) * e1 = mul-le-mul_right e1 (omega arith) in
     let ih : x * (scale * a1) ≤ x * (h * e1 + m * a1) = mul-le-mul_left x (horner_least scale x d (suc k) m pos) in
-    let step : (f q h e1 a1 : ℕ) → x * h * e1 ≤ (f * q + q) * e1 → x * (scale * a1) ≤ x * (h * e1 + m * a1) → scale * (q * e1 + x * a1) ≤ (scale + f) * (q * e1) + suc m * (q * e1 + x * a1) =
-    λ f q h e1 a1 u v. omega arith in
-    step f q h e1 a1 lost1 ih
+    omega arith
 
 top_least : (x d k m : ℕ) → above d k m ≤ top x d k m
 unfolding above top
@@ -132,8 +125,8 @@ module _ (S D h scale n C t y Q : ℕ) (hpos : 0 < h) (eh : h ≡ scale + y) (es
       let e2 : h * S ≡ h * (D + Q) = ap (λ (z : ℕ). h * z) es in
       let k : y * S ≤ Q * h = omega arith in
       let k1 : C * (y * S) ≤ C * (Q * h) = mul-le-mul_left C k in
-      let step : (r : ℕ) → r * (100 * h) * S ≤ C * y * S → r * (100 * S) * h ≤ C * Q * h = λ r u. omega arith in
-      le_of_mul-le-mul_right (step (C * y / (100 * h)) g) hpos
+      let last : C * y / (100 * h) * (100 * S) * h ≤ C * Q * h = omega arith in
+      le_of_mul-le-mul_right last hpos
 
   rounded_least : scale * S ≤ h * D + n * S → C * n ≤ t * (100 * h) → C * Q ≤ C * y / (100 * h) * (100 * S) + (t + 1) * (100 * S)
   rounded_least least small =
@@ -144,8 +137,8 @@ module _ (S D h scale n C t y Q : ℕ) (hpos : 0 < h) (eh : h ≡ scale + y) (es
       let k : Q * h ≤ y * S + n * S = omega arith in
       let k1 : C * (Q * h) ≤ C * (y * S + n * S) = mul-le-mul_left C k in
       let k2 : C * n * S ≤ t * (100 * h) * S = mul-le-mul_right S small in
-      let step : (r : ℕ) → C * y * S ≤ (r * (100 * h) + 100 * h) * S → C * Q * h ≤ (r * (100 * S) + (t + 1) * (100 * S)) * h = λ r u. omega arith in
-      le_of_mul-le-mul_right (step (C * y / (100 * h)) g) hpos
+      let last : C * Q * h ≤ (C * y / (100 * h) * (100 * S) + (t + 1) * (100 * S)) * h = omega arith in
+      le_of_mul-le-mul_right last hpos
 
 -- the same over any other fraction N / E that is S / D
 module _ (S D N E Q P C : ℕ) (dpos : 0 < D) (es : S ≡ D + Q) (en : N ≡ E + P) (same : N * D ≡ S * E) where
@@ -202,8 +195,8 @@ near_sum scale x d n C t opos dpos small =
     let r = C * (h - scale) / (100 * h) in
     let up : r * (100 * S) ≤ C * (S - D) = rounded_most S D h scale n C t (h - scale) (S - D) hpos eh es most in
     let down : C * (S - D) ≤ r * (100 * S) + (t + 1) * (100 * S) = rounded_least S D h scale n C t (h - scale) (S - D) hpos eh es least small1 in
-    let up1 : r * 100 * w.num ≤ C * (w.num - w.den) = move_most S D w.num w.den (S - D) (w.num - w.den) C (bottom_pos d n dpos) es en (sum_is x d n) (r * 100) (let e : (r : ℕ) → r * 100 * S ≡ r * (100 * S) = λ r. omega arith in rw (e r) up) in
-    let down1 : C * (w.num - w.den) ≤ (r * 100 + (t + 1) * 100) * w.num = move_least S D w.num w.den (S - D) (w.num - w.den) C (bottom_pos d n dpos) es en (sum_is x d n) (r * 100 + (t + 1) * 100) (let e : (r : ℕ) → (r * 100 + (t + 1) * 100) * S ≡ r * (100 * S) + (t + 1) * (100 * S) = λ r. omega arith in rw (e r) down) in
+    let up1 : r * 100 * w.num ≤ C * (w.num - w.den) = move_most S D w.num w.den (S - D) (w.num - w.den) C (bottom_pos d n dpos) es en (sum_is x d n) (r * 100) (omega (arith, up)) in
+    let down1 : C * (w.num - w.den) ≤ (r * 100 + (t + 1) * 100) * w.num = move_least S D w.num w.den (S - D) (w.num - w.den) C (bottom_pos d n dpos) es en (sum_is x d n) (r * 100 + (t + 1) * 100) (omega (arith, down)) in
     let last : (r N F : ℕ) → 0 < N → r * 100 * N ≤ F → F ≤ (r * 100 + (t + 1) * 100) * N → Near (t + 1) r (F over 100 * N) =
     λ r N F p u v. record { proper = omega arith; not_above = omega arith; not_below = omega arith } in
     last r w.num (C * (w.num - w.den)) (omega (arith, ws.0, ws.1)) up1 down1

@@ -1,5 +1,6 @@
 -- The pressuremeter: α/100·(a·p + 10,000·b)·(1 − 1/W) Pa at a net limit pressure of p kPa, with W the sum of u^k/k! up to a last k and u = c·p/10,000; a, b and c go by soil, α by category and soil.
 use Rattle.std.specs.Prelude.{ℕ, ◌+◌, ◌-◌, ◌*◌, ◌/◌, List, [], ◌∷◌, Some, None, Option, slice_index, slice_index_or}
+use Rattle.std.specs.Option.{option_map}
 use Rattle.terms.specs.Fractions.{Fraction, ◌⊗◌, ◌over◌, one_less_inverse}
 use Rattle.friction.specs.Rule.{inside_limits}
 use Rattle.friction.specs.Series.{sum_to, horner}
@@ -49,14 +50,10 @@ line_at soil p = slope_of soil * p + 10000 * base_of soil
 abbrev pub friction_at : (last soil p α : ℕ) → Fraction
 friction_at last soil p α = (α * line_at soil p over 100) ⊗ one_less_inverse (sum_to last (growth_of soil * p over 10000))
 
--- f of the α that the table has; none at a dash and beyond the limits
-abbrev pub from_alpha : {X : Type 0} → (ℕ → X) → Option ℕ → Option X
-from_alpha f None = None
-from_alpha f (Some α) = Some (f α)
-
+-- at the α that the table has; none at a dash and beyond the limits
 abbrev pub pressuremeter_fraction : (last soil category p : ℕ) → Option Fraction
 pressuremeter_fraction last soil category p =
-    inside_limits soil category p (from_alpha (friction_at last soil p) (alpha_of soil category))
+    inside_limits soil category p (option_map (friction_at last soil p) (alpha_of soil category))
 
 -- the answer of this crate: W up to k = 60 by Horner's way, scaled by 10^9, and the last quotient rounded down
 abbrev pub last_term : ℕ
@@ -74,4 +71,4 @@ answer_at soil p α = rounded (α * line_at soil p) (horner scale_of_sum (growth
 
 abbrev pub pressuremeter_answer : (soil category p : ℕ) → Option ℕ
 pressuremeter_answer soil category p =
-    inside_limits soil category p (from_alpha (answer_at soil p) (alpha_of soil category))
+    inside_limits soil category p (option_map (answer_at soil p) (alpha_of soil category))

@@ -1,12 +1,13 @@
 // The cone pressuremeter's friction rule, for clay or silt.
-ghost use Rattle.friction.specs.Cone.{cone_fraction, cone_answer};
+ghost use Rattle.std.specs.Prelude.{◌≡◌};
+ghost use Rattle.terms.specs.Fractions.{floor};
+ghost use Rattle.friction.specs.Cone.{cone_at, cone_fraction, cone_answer};
 ghost use Rattle.std.proofs.Common.{rules};
 
-use crate::rule::{FrictionRule, is_beyond};
+use crate::asked::Asked;
+use crate::rule::FrictionRule;
 use crate::tolerance::Tolerance;
-
-// The one soil that the rule knows.
-const CLAY: u64 = 1;
+use terms::soil::Soil;
 
 // kPa: from here on the friction is greatest.
 const GREATEST_FROM: u64 = 1_500;
@@ -21,6 +22,16 @@ const GREATEST_FRICTION: u64 = 80_000;
 const FACTOR: u64 = 8;
 
 const DIVISOR: u64 = 225;
+
+// The friction in clay or silt.
+fn friction_at(pressure: u64) -> u64
+    ensures { result ≡ floor (cone_at pressure) }
+{
+    if pressure > GREATEST_FROM {
+        return GREATEST_FRICTION;
+    }
+    FACTOR * pressure * (PARABOLA_END - pressure) / DIVISOR
+}
 
 #[derive(Clone, Copy)]
 pub struct ConePressuremeter;
@@ -47,13 +58,10 @@ impl FrictionRule for ConePressuremeter {
     }
 
     fn ask(&self, soil: u64, category: u64, pressure: u64) -> Option<u64> {
-        if is_beyond(soil, category, pressure) || soil != CLAY {
-            return None;
-        }
-        if pressure <= GREATEST_FROM {
-            Some(FACTOR * pressure * (PARABOLA_END - pressure) / DIVISOR)
-        } else {
-            Some(GREATEST_FRICTION)
+        let asked = Asked::new(soil, category, pressure)?;
+        match asked.soil {
+            Soil::Clay => Some(friction_at(asked.pressure)),
+            _ => None,
         }
     }
 }

@@ -1,14 +1,16 @@
 // The pressuremeter's friction rule: α/100·(a·p + 10,000·b)·(1 − 1/W).
 ghost use Rattle.std.specs.Prelude.{◌≡◌, ◌*◌, ◌^◌, ◌<◌, ◌≤◌};
-ghost use Rattle.terms.specs.Limits.{Within, soil_limits, category_limits, pressure_limits};
+ghost use Rattle.terms.specs.Soils.{number_of_soil};
 ghost use Rattle.friction.specs.Rule.{Agrees};
 ghost use Rattle.friction.specs.Series.{horner};
-ghost use Rattle.friction.specs.Pressuremeter.{pressuremeter_fraction, pressuremeter_answer, alpha_of, growth_of as growth_in, line_at as line_in, rounded, last_term, scale_of_sum};
+ghost use Rattle.friction.specs.Pressuremeter.{pressuremeter_fraction, pressuremeter_answer, alpha_of, slope_of, base_of, growth_of, line_at, rounded, last_term, scale_of_sum};
 ghost use Rattle.friction.specs.Tables.{pressuremeter_within};
 ghost use Rattle.std.proofs.Common.{rules};
 
-use crate::rule::{FrictionRule, is_beyond};
+use crate::asked::Asked;
+use crate::rule::FrictionRule;
 use crate::tolerance::Tolerance;
+use terms::soil::Soil;
 
 // W is the sum of u^k/k! for k from 0 to this one.
 const LAST_TERM: u64 = 60;
@@ -49,57 +51,79 @@ const ALPHA: [[Option<u64>; 5]; 20] = [
     [Some(340), Some(380), Some(310), Some(310), Some(310)],
 ];
 
-// a, b and c by soil from 1 to 5.
-const SLOPE: [u64; 5] = [3, 10, 7, 8, 10];
-
-const BASE: [u64; 5] = [4, 6, 7, 8, 8];
-
-const GROWTH: [u64; 5] = [35, 12, 13, 30, 30];
-
-fn alpha(soil: u64, category: u64) -> Option<u64>
-    requires { Within soil_limits soil × Within category_limits category }
-    ensures { result ≡ alpha_of soil category }
-{
-    ALPHA[(category - 1) as usize][(soil - 1) as usize]
+// a, b and c of a soil.
+#[derive(Clone, Copy)]
+struct Line {
+    slope: u64,
+    base: u64,
+    growth: u64,
 }
 
-// a·p + 10,000·b, at most 10·10,000 + 10,000·8.
-fn line_at(soil: u64, pressure: u64) -> u64
-    requires { Within soil_limits soil × Within pressure_limits pressure }
-    ensures { (result ≡ line_in soil pressure) × (result ≤ 180000) }
-{
-    let i = (soil - 1) as usize;
-    SLOPE[i] * pressure + BASE_UNIT * BASE[i]
+impl Line {
+    fn of(soil: Soil) -> Line
+        ensures { (result.slope ≡ slope_of (number_of_soil soil)) × (result.base ≡ base_of (number_of_soil soil)) × (result.growth ≡ growth_of (number_of_soil soil)) }
+    {
+        let (slope, base, growth) = match soil {
+            Soil::Clay => (3, 4, 35),
+            Soil::Sand => (10, 6, 12),
+            Soil::Chalk => (7, 7, 13),
+            Soil::Marl => (8, 8, 30),
+            Soil::Rock => (10, 8, 30),
+        };
+        Line {
+            slope,
+            base,
+            growth,
+        }
+    }
 }
 
-// c·p, which is u in parts of 10,000; at most 35·10,000.
-fn growth_at(soil: u64, pressure: u64) -> u64
-    requires { Within soil_limits soil × Within pressure_limits pressure }
-    ensures { (result ≡ growth_in soil * pressure) × (result ≤ 350000) }
-{
-    GROWTH[(soil - 1) as usize] * pressure
+impl Asked {
+    fn alpha(self) -> Option<u64>
+        ensures { result ≡ alpha_of (number_of_soil self.soil) self.category }
+    {
+        ALPHA[(self.category - 1) as usize][self.soil as usize]
+    }
+
+    // a·p + 10,000·b, at most 10·10,000 + 10,000·8.
+    fn line(self) -> u64
+        ensures { (result ≡ line_at (number_of_soil self.soil) self.pressure) × (result ≤ 180000) }
+    {
+        let line = Line::of(self.soil);
+        line.slope * self.pressure + BASE_UNIT * line.base
+    }
+
+    // c·p, which is u in parts of 10,000; at most 35·10,000.
+    fn growth(self) -> u64
+        ensures { (result ≡ growth_of (number_of_soil self.soil) * self.pressure) × (result ≤ 350000) }
+    {
+        Line::of(self.soil).growth * self.pressure
+    }
 }
 
 // W times SCALE for u = x/10,000, by Horner's way from the last term down, each quotient rounded down.
 // At the greatest x it is less than 2^90, so that every product fits 128 bits.
+// A loop and no fold: that a product fits depends on its term, which the invariant says in one line and a closure cannot see.
+#[tactic(auto, using(crate::proofs::Bounds::horner_turns))]
 fn scaled_sum(x: u64) -> u128
     requires { x ≤ 350000 }
     ensures { (result ≡ horner scale_of_sum x 10000 0 last_term) × (result < 2 ^ 90) × (scale_of_sum ≤ result) }
 {
-    let wide = x as u128;
+    let wide = u128::from(x);
     let mut h = SCALE;
     for k in (1..=LAST_TERM).rev() {
-        h = SCALE + wide * h / (GROWTH_DIVISOR * k) as u128;
+        h = SCALE + wide * h / u128::from(GROWTH_DIVISOR * k);
     }
     h
 }
 
 // amount/100·(1 − 1/W) rounded down, for W = h/SCALE; the amount is at most 380·180,000.
+// The quotient is at most the amount, so that `as` loses nothing and there is no error to hand on.
 fn rounded_down(amount: u64, h: u128) -> u64
     requires { (amount ≤ 68400000) × (scale_of_sum ≤ h) × (h < 2 ^ 90) }
     ensures { result ≡ rounded amount h }
 {
-    (amount as u128 * (h - SCALE) / (ALPHA_DIVISOR * h)) as u64
+    (u128::from(amount) * (h - SCALE) / (ALPHA_DIVISOR * h)) as u64
 }
 
 #[derive(Clone, Copy)]
@@ -127,15 +151,14 @@ impl FrictionRule for Pressuremeter {
     }
 
     // Any answer inside the tolerance is right; docs/METHOD.md says which one this is.
+    #[tactic(auto, using(crate::specs::Tables::alpha_small, crate::specs::Tables::amount_small, crate::specs::Tables::pressuremeter_within))]
     fn ask(&self, soil: u64, category: u64, pressure: u64) -> Option<u64>
         ensures same { result ≡ pressuremeter_answer soil category pressure }
         ensures near { Agrees 10 (pressuremeter_fraction last_term soil category pressure) result }
     {
-        if is_beyond(soil, category, pressure) {
-            return None;
-        }
-        let alpha = alpha(soil, category)?;
-        let sum = scaled_sum(growth_at(soil, pressure));
-        Some(rounded_down(alpha * line_at(soil, pressure), sum))
+        let asked = Asked::new(soil, category, pressure)?;
+        let alpha = asked.alpha()?;
+        let sum = scaled_sum(asked.growth());
+        Some(rounded_down(alpha * asked.line(), sum))
     }
 }

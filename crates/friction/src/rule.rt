@@ -16,7 +16,8 @@ pub trait FrictionRule {
 
     ghost answer: { Self → ℕ → ℕ → ℕ → Option ℕ };
 
-    // A clause cannot cite `TOLERANCE`: each rule returns its `pascals` here, which ties it to `tolerance`.
+    // A clause can cite `TOLERANCE` only by a ghost member that is a whole `Tolerance` with its proofs, written again in each rule.
+    // It is shorter that each rule returns its `pascals` here, which ties it to `tolerance`.
     fn tolerance_in_pascals() -> u64
         ensures same { result ≡ tolerance }
         ensures small { (1 ≤ result) × (result ≤ 10) };

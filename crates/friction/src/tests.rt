@@ -72,12 +72,12 @@ fn pressuremeter(rt: HostRuntime) {
 
 // The answers at 2,000 kPa, each times its category; a dash counts 0.
 fn weighed(soil: u64) -> u64 {
-    let mut sum: u64 = 0;
-    for category in 1..=20u64 {
-        let friction = Pressuremeter.ask(soil, category, 2_000).unwrap_or(0);
-        sum = sum.wrapping_add(category.wrapping_mul(friction));
-    }
-    sum
+    (1..=20u64)
+        .map(|category| {
+            let friction = Pressuremeter.ask(soil, category, 2_000).unwrap_or(0);
+            category.wrapping_mul(friction)
+        })
+        .fold(0, u64::wrapping_add)
 }
 
 #[test]
