@@ -8,6 +8,9 @@ use ground::layer::{Amendment, Layer};
 use pile::numbers::PileNumbers;
 use terms::refusal::Refusal;
 
+#[cfg(test)]
+mod tests;
+
 // What a judging asks: the design load in kN, the model factor and the resistance factor in thousandths.
 #[derive(Clone, Copy, PartialEq, Eq, Debug)]
 pub struct Question {
@@ -53,6 +56,7 @@ pub enum Call {
     Judge(Question),
 }
 
+// One of three lines of a sheet; a `Result` round what was granted would need an enum of that beside it.
 #[derive(Clone, Copy, PartialEq, Eq, Debug)]
 pub enum Answer {
     // A change was made.

@@ -1,6 +1,7 @@
 // Limits at their ends, and a refusal of each part.
-use crate::limits::THICKNESS;
+use crate::limits::{SOIL, THICKNESS};
 use crate::refusal::{Part, Refusal};
+use crate::soil::{Soil, UnknownSoil};
 use std::process::Abort;
 
 fn is(rt: &impl Abort, refusal: Refusal, number: u64, part: Part, place: u64) {
@@ -22,6 +23,25 @@ fn nearest_inside(rt: HostRuntime) {
     assert_eq!(rt; THICKNESS.take_nearest(0), 100);
     assert_eq!(rt; THICKNESS.take_nearest(4_000), 4_000);
     assert_eq!(rt; THICKNESS.take_nearest(65_001), 65_000);
+}
+
+#[test]
+fn admits_or_refuses(rt: HostRuntime) {
+    let refusal = Refusal::LayerNumber { field: 2 };
+    assert_eq!(rt; THICKNESS.admit(100, refusal), Ok(()));
+    assert_eq!(rt; THICKNESS.admit(99, refusal), Err(refusal));
+}
+
+#[test]
+fn soils_by_number(rt: HostRuntime) {
+    let soils = [Soil::Clay, Soil::Sand, Soil::Chalk, Soil::Marl, Soil::Rock];
+    for (number, soil) in (SOIL.least..).zip(soils) {
+        assert_eq!(rt; Soil::try_from(number), Ok(soil));
+    }
+    assert_eq!(rt; Soil::try_from(0), Err(UnknownSoil(0)));
+    assert_eq!(rt; Soil::try_from(6), Err(UnknownSoil(6)));
+    assert_eq!(rt; Soil::nearest(0), Soil::Clay);
+    assert_eq!(rt; Soil::nearest(9), Soil::Rock);
 }
 
 #[test]
