@@ -1,7 +1,7 @@
 // What is said to a study and what it answers, as plain data.
 #![tactic(auto)]
 
-ghost use Rattle.std.specs.Prelude.{◌≡◌, MatchResult};
+ghost use Rattle.std.specs.Prelude.{◌≡◌, [], ◌∷◌, MatchResult};
 ghost use Rattle.calls.specs.declared.Answer.TheVariants.{Done, Refused, Judged};
 
 use ground::layer::{Amendment, Layer};
@@ -17,6 +17,20 @@ pub struct Question {
     pub load: u64,
     pub model_factor: u64,
     pub resistance_factor: u64,
+}
+
+// In the order of the fields.
+impl From<[u64; 3]> for Question {
+    ghost from_gives = { λ numbers question. numbers ≡ question.load ∷ question.model_factor ∷ question.resistance_factor ∷ [] };
+
+    fn from(numbers: [u64; 3]) -> Question {
+        let [load, model_factor, resistance_factor] = numbers;
+        Question {
+            load,
+            model_factor,
+            resistance_factor,
+        }
+    }
 }
 
 // What a judging answers: resistance R and design capacity in µN, and whether the capacity carries the load.

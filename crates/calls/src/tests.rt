@@ -1,5 +1,5 @@
-// The answer that the outcome of a call is.
-use crate::{Answer, Judgement};
+// The answer that the outcome of a call is, and a question from its numbers.
+use crate::{Answer, Judgement, Question};
 use terms::refusal::Refusal;
 
 #[test]
@@ -18,4 +18,14 @@ fn answers_what_a_call_came_to(rt: HostRuntime) {
         Answer::from(refused),
         Answer::Refused(Refusal::LoadNotCarried)
     );
+}
+
+#[test]
+fn asks_in_the_order_of_the_fields(rt: HostRuntime) {
+    let question = Question {
+        load: 300,
+        model_factor: 1_150,
+        resistance_factor: 1_100,
+    };
+    assert_eq!(rt; Question::from([300, 1_150, 1_100]), question);
 }

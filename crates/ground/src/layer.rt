@@ -1,5 +1,5 @@
 // One layer, as the site engineer gives it.
-ghost use Rattle.std.specs.Prelude.{◌≡◌};
+ghost use Rattle.std.specs.Prelude.{◌≡◌, [], ◌∷◌};
 ghost use Rattle.terms.specs.Chains.{unless};
 ghost use Rattle.ground.specs.Layers.{layer_flaw};
 
@@ -19,6 +19,22 @@ pub struct Layer {
     pub modulus: u64,
     // greatest unit friction, kPa
     pub ceiling: u64,
+}
+
+// In the order of the fields.
+impl From<[u64; 5]> for Layer {
+    ghost from_gives = { λ numbers layer. numbers ≡ layer.soil ∷ layer.thickness ∷ layer.pressure ∷ layer.modulus ∷ layer.ceiling ∷ [] };
+
+    fn from(numbers: [u64; 5]) -> Layer {
+        let [soil, thickness, pressure, modulus, ceiling] = numbers;
+        Layer {
+            soil,
+            thickness,
+            pressure,
+            modulus,
+            ceiling,
+        }
+    }
 }
 
 impl Layer {
@@ -43,4 +59,18 @@ pub struct Amendment {
     pub pressure: u64,
     // Ménard modulus, kPa
     pub modulus: u64,
+}
+
+// In the order of the fields.
+impl From<[u64; 3]> for Amendment {
+    ghost from_gives = { λ numbers amendment. numbers ≡ amendment.index ∷ amendment.pressure ∷ amendment.modulus ∷ [] };
+
+    fn from(numbers: [u64; 3]) -> Amendment {
+        let [index, pressure, modulus] = numbers;
+        Amendment {
+            index,
+            pressure,
+            modulus,
+        }
+    }
 }

@@ -46,14 +46,6 @@ fn judged(kilonewtons: u64) -> Judgement {
     }
 }
 
-fn amendment(index: u64, pressure: u64, modulus: u64) -> Amendment {
-    Amendment {
-        index,
-        pressure,
-        modulus,
-    }
-}
-
 #[test]
 fn refusals_change_nothing(rt: HostRuntime) -> Result<(), Fail> {
     let mut study = Study::new(rt.alloc(), Pressuremeter, FrankZhao)?;
@@ -65,11 +57,11 @@ fn refusals_change_nothing(rt: HostRuntime) -> Result<(), Fail> {
         Err(Refusal::LayerNumber { field: 1 })
     );
     assert_eq!(rt;
-        study.amend(amendment(1, 100, 100)),
+        study.amend(Amendment::from([1, 100, 100])),
         Err(Refusal::NoLayerToAmend)
     );
     assert_eq!(rt;
-        study.amend(amendment(0, 100, 99)),
+        study.amend(Amendment::from([0, 100, 99])),
         Err(Refusal::LayerNumber { field: 3 })
     );
     assert_eq!(rt;
@@ -95,7 +87,7 @@ fn judges_what_was_amended(rt: HostRuntime) -> Result<(), Fail> {
     let mut study = Study::new(rt.alloc(), Pressuremeter, FrankZhao)?;
     study.lay(SAND)?;
     study.drive(bored(1_000))?;
-    study.amend(amendment(0, 1_500, 10_000))?;
+    study.amend(Amendment::from([0, 1_500, 10_000]))?;
     assert_eq!(rt; study.judge(&PLAIN), Ok(judged(372)));
     Ok(())
 }
