@@ -1,7 +1,7 @@
 -- One call on in a story; a story as a tale; two tales as one.
-use Rattle.std.proofs.Common.{◌≡◌, ℕ, ◌+◌, ◌<◌, List, [], ◌∷◌, ◌++◌, map, length, get_or, take, set, Option, sym, ap, ◌∙◌, subst}
+use Rattle.std.proofs.Common.{◌≡◌, ℕ, ◌+◌, ◌<◌, List, [], ◌∷◌, ◌++◌, map, length, get_or, take, set, sym, ap, ◌∙◌, subst}
 use Rattle.std.proofs.lemmas.List.{map_more, take_more_set}
-use Rattle.terms.specs.Fractions.{Fraction}
+use Rattle.friction.specs.declared.rule.FrictionRule.{Ghosts}
 use Rattle.friction.specs.Rule.{Agrees}
 use Rattle.calls.specs.declared.Call.{Call}
 use Rattle.calls.specs.declared.Answer.{Answer}
@@ -16,9 +16,8 @@ use Rattle.story.proofs.Births.{born}
 use Rattle.story.proofs.Splits.{join, told_one, leaves, placed, lived}
 
 -- a study with the same rule means the same
-pub same_meaning : {R L : Type 0} (tolerance : ℕ) (fraction : R → ℕ → ℕ → ℕ → Option Fraction) (answer : R → ℕ → ℕ → ℕ → Option ℕ) (s t : Study R L) → rule_of t ≡ rule_of s
-    → meaning tolerance fraction answer t ≡ meaning tolerance fraction answer s
-same_meaning {R} tolerance fraction answer s t e = ap (λ (r : R). record { tolerance = tolerance; fraction = fraction r; answer = answer r }) e
+pub same_meaning : {R L : Type 0} (rule : Ghosts R) (s t : Study R L) → rule_of t ≡ rule_of s → meaning rule t ≡ meaning rule s
+same_meaning rule s t e = ap (λ r. record { tolerance = rule.tolerance; fraction = rule.fraction r; answer = rule.answer r }) e
 
 pub told_more : (m k : Meaning) → k ≡ m → (first s t : Site) (calls : List Call) (answers : List Answer) (i : ℕ) (d call : Call) (a : Answer) → call ≡ get_or calls i d → i < length calls → i < length answers
     → Told m first (map plain (take i calls)) (take i answers) s → Step k s (plain call) a t

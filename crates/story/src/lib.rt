@@ -16,7 +16,7 @@ mod tests;
 
 // One call.
 pub fn perform<R: FrictionRule, L: TransferLaw>(study: &mut Study<R, L>, call: &Call) -> Answer
-    ensures { Performs (meaning R.FrictionRule.tolerance R.FrictionRule.fraction R.FrictionRule.answer) study.old (plain call.now) result study.new }
+    ensures { Performs (meaning R.FrictionRule) study.old (plain call.now) result study.new }
 {
     match *call {
         Call::Lay(layer) => study.lay(layer).into(),
@@ -33,7 +33,7 @@ pub fn tell<R: FrictionRule, L: TransferLaw>(
     calls: &[Call],
     answers: &mut [Answer],
 ) -> usize
-    ensures { Tells (meaning R.FrictionRule.tolerance R.FrictionRule.fraction R.FrictionRule.answer) study.old calls.now answers.old result study.new answers.new }
+    ensures { Tells (meaning R.FrictionRule) study.old calls.now answers.old result study.new answers.new }
 {
     let n = calls.len().min(answers.len());
     // Nothing would be known of answers written through a zip.

@@ -1,9 +1,9 @@
 -- What a study holds, as a site; and what a call that changes it promises.
-use Rattle.std.specs.Prelude.{◌≡◌, ℕ, Option, Result}
+use Rattle.std.specs.Prelude.{◌≡◌, Result}
 use Rattle.std.specs.Option.{option_map}
 use Rattle.terms.specs.declared.refusal.Refusal.{Refusal}
 use Rattle.terms.specs.Chains.{Changes}
-use Rattle.terms.specs.Fractions.{Fraction}
+use Rattle.friction.specs.declared.rule.FrictionRule.{Ghosts}
 use Rattle.ground.specs.Table.{strata}
 use Rattle.pile.specs.Driven.{numbers_of}
 use Rattle.study.specs.declared.holder.Study.{Study}
@@ -21,8 +21,8 @@ module _ {R L : Type 0} where
   law_of s = s.law
 
   -- the meaning of the study's rule, from the members of the rule's interface
-  abbrev pub meaning : ℕ → (R → ℕ → ℕ → ℕ → Option Fraction) → (R → ℕ → ℕ → ℕ → Option ℕ) → Study R L → Meaning
-  meaning tolerance fraction answer s = record { tolerance = tolerance; fraction = fraction s.rule; answer = answer s.rule }
+  abbrev pub meaning : Ghosts R → Study R L → Meaning
+  meaning rule s = record { tolerance = rule.tolerance; fraction = rule.fraction s.rule; answer = rule.answer s.rule }
 
   -- a call leaves the rule and the law as they are
   abbrev pub Kept : Study R L → Study R L → Type 0

@@ -13,12 +13,12 @@ loop-i-init g c = ((refl, refl), refl, over)
 pub loop-i-preserved : goal.loop-i-preserved
 loop-i-preserved g c =
     let s = c.args.study.now in
-    let means = meaning g.R.FrictionRule.tolerance g.R.FrictionRule.fraction g.R.FrictionRule.answer in
+    let means = meaning g.R.FrictionRule in
     let inv = c.loop-i.invariant in
     let i = c.loop-i.i in
     let was = c.loop-i.answers in
     let told = c.perform.ensures in
-    let same : means c.loop-i.study ≡ means s = same_meaning g.R.FrictionRule.tolerance g.R.FrictionRule.fraction g.R.FrictionRule.answer s c.loop-i.study inv.0.0 in
+    let same : means c.loop-i.study ≡ means s = same_meaning g.R.FrictionRule s c.loop-i.study inv.0.0 in
     let n = c.min-n.result in
     let count = length-take n c.args.calls.now in
     let within : i < n = omega (arith, count, c.loop-i-test.true) in
@@ -33,7 +33,7 @@ loop-i-preserved g c =
 pub returns : goal.returns
 returns g c =
     let s = c.args.study.now in
-    let means = meaning g.R.FrictionRule.tolerance g.R.FrictionRule.fraction g.R.FrictionRule.answer in
+    let means = meaning g.R.FrictionRule in
     let inv = c.loop-i.invariant in
     let n = c.min-n.result in
     let end : c.loop-i.i ≡ n = omega (arith, length-take n c.args.calls.now, c.loop-i-test.false) in

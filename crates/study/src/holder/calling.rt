@@ -65,7 +65,7 @@ impl<R: FrictionRule, L: TransferLaw> Study<R, L> {
 
     // Resistance, capacity and verdict.
     pub fn judge(&self, question: &Question) -> Result<Judgement, Refusal>
-        ensures { Answers (judge_refusal (R.FrictionRule.answer (rule_of self.now)) (site_of self.now) question.now) (JudgedOn (meaning R.FrictionRule.tolerance R.FrictionRule.fraction R.FrictionRule.answer self.now) (site_of self.now) question.now) result }
+        ensures { Answers (judge_refusal (R.FrictionRule.answer (rule_of self.now)) (site_of self.now) question.now) (JudgedOn (meaning R.FrictionRule self.now) (site_of self.now) question.now) result }
     {
         match self.pile {
             Some(pile) => judge(&self.rule, &self.ground, &pile, question),
