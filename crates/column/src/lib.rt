@@ -22,7 +22,7 @@ pub struct PileBody {
 }
 
 // A part of the shaft in one layer, or a slice of such a part.
-#[derive(Clone, Copy, PartialEq, Eq, Debug)]
+#[derive(Clone, Copy, PartialEq, Eq, Default, Debug)]
 pub struct Part {
     // mm
     pub height: u64,

@@ -1,5 +1,4 @@
-pub mod Digits
 pub mod Onward
 pub mod Listed
 pub mod Once
-pub mod Adding
+pub mod Shapes

@@ -6,19 +6,17 @@ use Rattle.terms.specs.declared.refusal.Refusal.TheVariants.{MalformedField}
 use Rattle.lines.specs.Fields.{Field, NoField, Fields, Malformed}
 
 -- the first i fields of text are read, and rest is what follows them
-pub record Onward (text numbers rest : List ℕ) (i place : ℕ) : Type 0 where
-  pub counts : place ≡ i + 1
+pub record Onward (text numbers rest : List ℕ) (i : ℕ) : Type 0 where
   pub good : (more : List ℕ) → Fields rest more → Fields text (take i numbers ++ more)
-  pub bad : (count : ℕ) (e : Refusal) → Malformed rest count place e → Malformed text (i + count) 1 e
+  pub bad : (count : ℕ) (e : Refusal) → Malformed rest count (i + 1) e → Malformed text (i + count) 1 e
 
-pub start : (text numbers : List ℕ) → Onward text numbers text 0 1
-start text numbers = record { counts = refl; good = λ more h. h; bad = λ count e h. subst (λ n. Malformed text n 1 e) (omega arith) h }
+pub start : (text numbers : List ℕ) → Onward text numbers text 0
+start text numbers = record { good = λ more h. h; bad = λ count e h. subst (λ n. Malformed text n 1 e) (omega arith) h }
 
-pub onward : {text numbers rest after : List ℕ} {i place number : ℕ} → i < length numbers → Onward text numbers rest i place → Field rest number after → Onward text (set numbers i number) after (i + 1) (place + 1)
-onward {text} {numbers} {rest} {after} {i} {place} {number} h o f =
+pub onward : {text numbers rest after : List ℕ} {i number : ℕ} → i < length numbers → Onward text numbers rest i → Field rest number after → Onward text (set numbers i number) after (i + 1)
+onward {text} {numbers} {rest} {after} {i} {number} h o f =
     let front : take (i + 1) (set numbers i number) ≡ take i numbers ++ (number ∷ []) = rw add-one (take-suc-set numbers i number h) in
     record {
-      counts = omega (arith, o.counts);
       good = λ more g.
           let whole : take (i + 1) (set numbers i number) ++ more ≡ take i numbers ++ (number ∷ more) = ap (λ l. l ++ more) front ∙ append_assoc (take i numbers) (number ∷ []) more in
           subst (Fields text) (sym whole) (o.good (number ∷ more) (after, f, g));
@@ -28,19 +26,19 @@ onward {text} {numbers} {rest} {after} {i} {place} {number} h o f =
     }
 
 -- the field that should come next does not
-pub broken : {text numbers rest : List ℕ} {i place n : ℕ} {e : Refusal} → i < n → Onward text numbers rest i place → NoField rest → e ≡ MalformedField place → Malformed text n 1 e
-broken {text} {numbers} {rest} {i} {place} {n} {e} h o none is =
+pub broken : {text numbers rest : List ℕ} {i n : ℕ} → i < n → Onward text numbers rest i → NoField rest → Malformed text n 1 (MalformedField (i + 1))
+broken {text} {numbers} {rest} {i} {n} h o none =
     let total : i + suc (n - (i + 1)) ≡ n = omega arith in
-    subst (λ m. Malformed text m 1 e) total (o.bad (suc (n - (i + 1))) e (inl (none, is)))
+    subst (λ m. Malformed text m 1 (MalformedField (i + 1))) total (o.bad (suc (n - (i + 1))) _ (inl (none, refl)))
 
 -- all fields are read, and something follows
-pub surplus : {text numbers rest : List ℕ} {i place n : ℕ} {e : Refusal} → i ≡ n → Onward text numbers rest i place → 0 < length rest → e ≡ MalformedField place → Malformed text n 1 e
-surplus {text} {numbers} {rest} {i} {place} {n} {e} h o some is =
-    let total : i + 0 ≡ n = omega arith in
-    subst (λ m. Malformed text m 1 e) total (o.bad 0 e (some, is))
+pub surplus : {text numbers rest : List ℕ} {i n : ℕ} → i ≡ n → Onward text numbers rest i → 0 < length rest → Malformed text n 1 (MalformedField (n + 1))
+surplus {text} {numbers} {rest} {i} {n} e o some =
+    let total : i + 0 ≡ i = omega arith in
+    subst (λ m. Malformed text m 1 (MalformedField (m + 1))) e (subst (λ m. Malformed text m 1 (MalformedField (i + 1))) total (o.bad 0 _ (some, refl)))
 
 -- all fields are read, and nothing follows
-pub finished : {text numbers rest : List ℕ} {i place : ℕ} → i ≡ length numbers → Onward text numbers rest i place → length rest ≡ 0 → Fields text numbers
-finished {text} {numbers} {rest} {i} {place} h o none =
+pub finished : {text numbers rest : List ℕ} {i : ℕ} → i ≡ length numbers → Onward text numbers rest i → length rest ≡ 0 → Fields text numbers
+finished {text} {numbers} {rest} {i} h o none =
     let whole : take i numbers ++ [] ≡ numbers = append-nil (take i numbers) ∙ ap (λ n. take n numbers) h ∙ take-length numbers in
     subst (Fields text) whole (o.good [] none)

@@ -1,11 +1,23 @@
 -- The fields of a line: each is one space and then 1 to 10 digits, and is counted from 1.
-use Rattle.std.specs.Prelude.{◌≡◌, ℕ, zero, suc, ◌+◌, ◌<◌, ◌≤◌, ◌⊎◌, List, [], ◌∷◌, length, take, drop, slice_index, slice_index_or}
+use Rattle.std.specs.Prelude.{◌≡◌, ℕ, zero, suc, ◌+◌, ◌<◌, ◌≤◌, ◌⊎◌, List, [], ◌∷◌, length, ◌≢◌, take, drop, slice_index, slice_index_or}
 use Rattle.std.specs.Str.Parse.{digits_value}
 use Rattle.terms.specs.declared.refusal.Refusal.{Refusal}
 use Rattle.terms.specs.declared.refusal.Refusal.TheVariants.{MalformedField}
 
 abbrev pub most_digits : ℕ
 most_digits = 10
+
+-- text is 1 to 10 digits
+pub record Numeral (text : List ℕ) : Type 0 where
+  pub some : 1 ≤ length text
+  pub few : length text ≤ most_digits
+  pub digits : (k : ℕ) → k < length text → (48 ≤ slice_index text k) × (slice_index text k ≤ 57)
+
+-- so many bytes stand before the first space, or are the whole text where it has none
+pub record UpToSpace (text : List ℕ) (width : ℕ) : Type 0 where
+  pub inside : width ≤ length text
+  pub none : (k : ℕ) → k < width → slice_index text k ≢ 32
+  pub ends : width < length text → slice_index text width ≡ 32
 
 -- text begins with a space and then so many digits, after which it ends or has a space
 pub record Shape (text : List ℕ) (width : ℕ) : Type 0 where

@@ -3,4 +3,3 @@ pub mod Fields
 pub mod Grammar
 pub mod Meaning
 pub mod Print
-pub mod Room

@@ -6,11 +6,7 @@ use Rattle.calls.specs.declared.Answer.TheVariants.{Done, Refused, Judged}
 use Rattle.lines.specs.declared.letter.Letter.{Letter}
 use Rattle.lines.specs.Letters.{code}
 
--- bytes: two numbers of at most 20 digits, a verdict of at most 3, and 2 spaces
-abbrev pub longest_words : ℕ
-longest_words = 45
-
--- with letter, space and line feed
+-- bytes: letter, two numbers of at most 20 digits, a verdict of at most 3, three spaces and the line feed
 abbrev pub longest_answer : ℕ
 longest_answer = 48
 

@@ -1,56 +1,64 @@
 // The fields of a line.
-ghost use Rattle.std.specs.Prelude.{◌≡◌, ◌≤◌, MatchResult};
-ghost use Rattle.terms.specs.declared.refusal.Refusal.TheVariants.{MalformedField};
-ghost use Rattle.lines.specs.Fields.{Field, NoField, Reads, Malformed};
+ghost use Rattle.std.specs.Prelude.{◌≡◌, ◌≤◌, length, MatchOption, MatchResult};
+ghost use Rattle.std.specs.Option.{SomeIff};
+ghost use Rattle.std.specs.Str.Parse.{digits_value};
+ghost use Rattle.lines.specs.Fields.{Numeral, UpToSpace, Field, NoField, Reads, Malformed};
 
 use terms::refusal::Refusal;
 
 // So that a number fits u64 with room to spare.
 const MOST_DIGITS: usize = 10;
 
-// The field that `text` begins with, and what follows it. Of its line it is field `place`.
-fn field(text: &[u8], place: u64) -> Result<(u64, &[u8]), Refusal>
-    ensures { MatchResult result (λ p. Field text.now p.0 p.1.now) (λ e. NoField text.now × (e ≡ MalformedField place)) }
+// The number that the bytes write, if they are digits and not too many.
+fn number(text: &[u8]) -> Option<u64>
+    ensures { SomeIff result (Numeral text.now) (digits_value 10 text.now) }
 {
-    let refusal = Refusal::MalformedField { field: place };
-    if text.is_empty() || text[0] != b' ' {
-        return Err(refusal);
+    if text.is_empty() || text.len() > MOST_DIGITS {
+        return None;
     }
-    let mut width: usize = 0;
-    let mut number: u64 = 0;
-    while width < MOST_DIGITS
-        && width + 1 < text.len()
-        && text[width + 1] >= b'0'
-        && text[width + 1] <= b'9'
-    {
-        number = number * 10 + u64::from(text[width + 1] - b'0');
-        width += 1;
+    let mut number = 0;
+    for byte in text {
+        let digit = char::from(*byte).to_digit(10)?;
+        number = number * 10 + u64::from(digit);
     }
-    if width == 0 {
-        return Err(refusal);
-    }
-    if width + 1 < text.len() && text[width + 1] != b' ' {
-        return Err(refusal);
-    }
-    Ok((number, &text[width + 1..]))
+    Some(number)
+}
+
+// How many bytes stand before the first space.
+fn width_of(text: &[u8]) -> usize
+    ensures { UpToSpace text.now result }
+{
+    text.iter().position(|b| *b == b' ').unwrap_or(text.len())
+}
+
+// The number of the field that `text` begins with, and what follows the field.
+#[tactic(auto, using(crate::proofs::Shapes::unspaced, crate::proofs::Shapes::read))]
+fn field(text: &[u8]) -> Option<(u64, &[u8])>
+    ensures { MatchOption result (NoField text.now) (λ p. Field text.now p.0 p.1.now) }
+{
+    let rest = text.strip_prefix(b" ")?;
+    let (digits, after) = rest.split_at(width_of(rest));
+    Some((number(digits)?, after))
 }
 
 // The numbers of the `N` fields that `text` is. No command has more than ten.
+#[tactic(auto, using(crate::proofs::Onward::start, crate::proofs::Onward::surplus, crate::proofs::Onward::finished, crate::proofs::Onward::broken))]
 pub(super) fn fields<const N: usize>(text: &[u8]) -> Result<[u64; N], Refusal>
     requires { N ≤ 10 }
     ensures { MatchResult result (λ numbers. Reads text.now N numbers) (λ e. Malformed text.now N 1 e) }
 {
     let mut numbers = [0; N];
     let mut rest = text;
-    let mut place = 1;
-    for i in 0..N {
-        let (number, after) = field(rest, place)?;
-        numbers[i] = number;
-        rest = after;
-        place += 1;
+    for (i, number) in numbers.iter_mut().enumerate() {
+        let refusal = Refusal::MalformedField {
+            field: i as u64 + 1,
+        };
+        (*number, rest) = field(rest).ok_or(refusal)?;
     }
     if !rest.is_empty() {
-        return Err(Refusal::MalformedField { field: place });
+        return Err(Refusal::MalformedField {
+            field: N as u64 + 1,
+        });
     }
     Ok(numbers)
 }

@@ -1,12 +1,12 @@
 // A line as a call.
-ghost use Rattle.std.specs.Prelude.{◌≡◌, ◌<◌, length, drop, MatchResult};
+ghost use Rattle.std.specs.Prelude.{◌≡◌, MatchResult};
 ghost use Rattle.lines.specs.Letters.{arity};
 ghost use Rattle.lines.specs.Fields.{Fields, Malformed};
 ghost use Rattle.lines.specs.Grammar.{letter_of, numbers_of, Says, Misread};
 ghost use Rattle.lines.specs.Meaning.{OneMeaning};
 
 use crate::fields::fields;
-use crate::letter::{Letter, letter_of};
+use crate::letter::Letter;
 use calls::{Call, Question};
 use ground::layer::Layer;
 use pile::numbers::PileNumbers;
@@ -14,14 +14,6 @@ use terms::refusal::Refusal;
 
 // Bytes, without the line feed.
 const LONGEST_LINE: usize = 120;
-
-// What follows the letter.
-fn tail(line: &[u8]) -> &[u8]
-    requires { 0 < length line.now }
-    ensures { result.now ≡ drop 1 line.now }
-{
-    &line[1..]
-}
 
 // The call of that letter whose numbers are the fields that `text` is.
 fn call_of(letter: Letter, text: &[u8]) -> Result<Call, Refusal>
@@ -88,17 +80,17 @@ fn call_of(letter: Letter, text: &[u8]) -> Result<Call, Refusal>
 }
 
 // The call that the line says, or why it says none; no line has two meanings.
+#[tactic(auto, using(crate::proofs::Once::one_meaning))]
 pub fn parse_line(line: &[u8]) -> Result<Call, Refusal>
     ensures reads { MatchResult result (λ call. Says line.now call) (λ e. Misread line.now e) }
     ensures once { OneMeaning line.now }
 {
-    let Some(letter) = letter_of(line) else {
-        return Err(Refusal::UnknownLetter);
-    };
+    let (first, fields) = line.split_first().ok_or(Refusal::UnknownLetter)?;
+    let letter = Letter::try_from(*first).map_err(|_| Refusal::UnknownLetter)?;
     if line.len() > LONGEST_LINE {
         return Err(Refusal::LongLine);
     }
-    call_of(letter, tail(line))
+    call_of(letter, fields)
 }
 
 #[cfg(test)]

@@ -1,93 +1,85 @@
 // An answer as a line.
-ghost use Rattle.std.specs.Prelude.{◌≡◌, ◌+◌, ◌≤◌, true, ◌++◌, length, is_ok, if◌then◌else◌, vec_len, vec_capacity, decimal, OnOk};
+ghost use Rattle.std.specs.Prelude.{◌≡◌, ◌+◌, ◌≤◌, true, ◌++◌, length, is_ok, if◌then◌else◌, vec_len, vec_capacity, OnOk};
 ghost use Rattle.calls.specs.declared.Answer.TheVariants.{Refused, Judged};
-ghost use Rattle.lines.specs.Print.{letter_byte, verdict, answer_words, answer_text, longest_words, longest_answer};
-ghost use Rattle.lines.specs.Room.{Room, Adds};
+ghost use Rattle.lines.specs.Print.{letter_byte, verdict, answer_words, answer_text, longest_answer};
 
 use crate::letter::Letter;
+use arrayvec::ArrayString;
 use calls::{Answer, Judgement};
+use itoa::Buffer;
 use std::alloc::AllocError;
 use terms::refusal::Refusal;
 
-// Bytes: letter, two numbers of 20 digits, verdict of 3, three spaces and the line feed.
+// Bytes: two numbers of 20 digits, verdict of 3 and two spaces.
+const LONGEST_WORDS: usize = 45;
+
+// With letter, space and line feed.
 pub const LONGEST_ANSWER: usize = 48;
 
-fn push_bytes(out: &mut Vec<u8>, text: &[u8])
-    requires { Room out.old (length text.now) }
-    ensures { Adds out.old out.new text.now }
-{
-    for byte in text {
-        out.push_reserved(*byte);
-    }
-}
-
-fn push_decimal(out: &mut Vec<u8>, n: u64)
-    requires { Room out.old (length (decimal n)) }
-    ensures { Adds out.old out.new (decimal n) }
-{
-    if n < 10 {
-        out.push_reserved(b'0' + n as u8);
-        return;
-    }
-    push_decimal(out, n / 10);
-    out.push_reserved(b'0' + (n % 10) as u8);
-}
+// Filled piece by piece: `write!` does not promise to succeed where there is room.
+type Words = ArrayString<LONGEST_WORDS>;
 
 // `E`, number and place.
-fn push_refusal(out: &mut Vec<u8>, refusal: Refusal)
-    requires { Room out.old longest_words }
-    ensures added { Adds out.old out.new (answer_words (Refused refusal)) }
-    ensures short { length (answer_words (Refused refusal)) ≤ longest_words }
+fn refusal_words(refusal: Refusal) -> Words
+    ensures { result.bytes ≡ answer_words (Refused refusal) }
 {
-    push_bytes(out, b"E ");
-    push_decimal(out, refusal.number());
-    push_bytes(out, b" ");
-    push_decimal(out, refusal.place());
+    let mut words = Words::new();
+    words.push_str("E ");
+    words.push_str(Buffer::new().format(refusal.number()));
+    words.push_str(" ");
+    words.push_str(Buffer::new().format(refusal.place()));
+    words
 }
 
-fn push_verdict(out: &mut Vec<u8>, carries: bool)
-    requires { Room out.old (length (verdict carries)) }
-    ensures { Adds out.old out.new (verdict carries) }
+fn verdict(carries: bool) -> &'static str
+    ensures words { result.now ≡ verdict carries }
+    ensures short { length result.now ≤ 3 }
 {
-    if carries {
-        push_bytes(out, b"yes");
-    } else {
-        push_bytes(out, b"no");
-    }
+    if carries { "yes" } else { "no" }
 }
 
 // Resistance, capacity and verdict.
-fn push_judgement(out: &mut Vec<u8>, judgement: Judgement)
-    requires { Room out.old longest_words }
-    ensures added { Adds out.old out.new (answer_words (Judged judgement)) }
-    ensures short { length (answer_words (Judged judgement)) ≤ longest_words }
+fn judgement_words(judgement: Judgement) -> Words
+    ensures { result.bytes ≡ answer_words (Judged judgement) }
 {
-    push_decimal(out, judgement.resistance);
-    push_bytes(out, b" ");
-    push_decimal(out, judgement.capacity);
-    push_bytes(out, b" ");
-    push_verdict(out, judgement.carries);
+    let mut words = Words::new();
+    words.push_str(Buffer::new().format(judgement.resistance));
+    words.push_str(" ");
+    words.push_str(Buffer::new().format(judgement.capacity));
+    words.push_str(" ");
+    words.push_str(verdict(judgement.carries));
+    words
 }
 
-fn push_words(out: &mut Vec<u8>, answer: &Answer)
-    requires { Room out.old longest_words }
-    ensures added { Adds out.old out.new (answer_words answer.now) }
-    ensures short { length (answer_words answer.now) ≤ longest_words }
+fn words_of(answer: &Answer) -> Words
+    ensures { result.bytes ≡ answer_words answer.now }
 {
     match answer {
-        Answer::Done => push_bytes(out, b"ok"),
-        Answer::Refused(refusal) => push_refusal(out, *refusal),
-        Answer::Judged(judgement) => push_judgement(out, *judgement),
+        Answer::Done => {
+            let mut words = Words::new();
+            words.push_str("ok");
+            words
+        }
+        Answer::Refused(refusal) => refusal_words(*refusal),
+        Answer::Judged(judgement) => judgement_words(*judgement),
     }
 }
 
-fn letter_byte(letter: Option<Letter>) -> u8
+fn letter_char(letter: Option<Letter>) -> char
     ensures { result ≡ letter_byte letter }
 {
-    match letter {
-        Some(letter) => letter.byte(),
-        None => b'?',
-    }
+    char::from(letter.map_or(b'?', u8::from))
+}
+
+fn line_of(letter: Option<Letter>, answer: &Answer) -> ArrayString<LONGEST_ANSWER>
+    ensures { result.bytes ≡ answer_text letter answer.now }
+{
+    let mut line = ArrayString::new();
+    line.push(letter_char(letter));
+    line.push_str(" ");
+    line.push_str(words_of(answer).as_str());
+    line.push_str("\n");
+    line
 }
 
 // Adds the answer's line to `out`, whole or not at all.
@@ -102,12 +94,8 @@ pub fn write_answer(
     ensures short { OnOk result (length (answer_text letter answer.now) ≤ longest_answer) }
     ensures succeeds { vec_len out.old + longest_answer ≤ vec_capacity out.old → is_ok result ≡ true }
 {
-    out.reserve(LONGEST_ANSWER)?;
-    out.push_reserved(letter_byte(letter));
-    out.push_reserved(b' ');
-    push_words(out, answer);
-    out.push_reserved(b'\n');
-    Ok(())
+    let line = line_of(letter, answer);
+    out.extend_from_slice(line.as_str().as_bytes())
 }
 
 #[cfg(test)]

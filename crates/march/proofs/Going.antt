@@ -1,19 +1,19 @@
 -- What the loops of a march keep.
-use Rattle.std.proofs.Common.{◌≡◌, ℕ, zero, suc, ◌+◌, ◌-◌, ◌*◌, ◌<◌, ◌≤◌, min, List, [], ◌∷◌, length, drop, sym, refl, ap, ◌∙◌, subst, mul-le-mul_right, mul-le-mul_left, arith}
-use Rattle.std.proofs.lemmas.List.{drop_more, drop_all}
-use Rattle.transfer.specs.Curve.{Curve, Capped}
+use Rattle.std.proofs.Common.{◌≡◌, ℕ, zero, suc, ◌+◌, ◌-◌, ◌*◌, ◌<◌, ◌≤◌, min, List, ◌∷◌, length, drop, sym, refl, ap, ◌∙◌, subst, mul-le-mul_right, mul-le-mul_left, arith}
+use Rattle.std.proofs.lemmas.List.{drop_more}
+use Rattle.transfer.specs.Curve.{Capped}
 use Rattle.column.specs.declared.Part.{Part}
 use Rattle.column.specs.declared.PileBody.{PileBody}
 use Rattle.column.specs.declared.Node.{Node}
 use Rattle.column.specs.Rounding.{ceil}
 use Rattle.column.specs.Slices.{slice, pieces, cut_left, cut, slices}
-use Rattle.column.specs.Case.{Case, case_of, tip_w}
+use Rattle.column.specs.Case.{Case, tip_w}
 use Rattle.column.specs.Tips.{tip_range}
 use Rattle.column.proofs.Rounding.{ceil_reaches}
 use Rattle.shaft.specs.Room.{Room, height_of, part_resistance, parts_resistance}
 use Rattle.march.specs.declared.Side.{Side}
 use Rattle.march.specs.declared.Side.TheVariants.{Lower, Upper}
-use Rattle.march.specs.Sides.{head_by, tip_by, step_by, head_over}
+use Rattle.march.specs.Sides.{tip_by, step_by, head_over}
 use Rattle.march.specs.Ahead.{Ahead}
 use Rattle.march.proofs.Fitting.{ahead_lower, ahead_upper}
 use Rattle.march.proofs.Cutting.{at, cut_none, cut_more, head_append}
@@ -113,13 +113,6 @@ module _ (c : Case) (side : Side) {step s : ℕ} {ps : List Part} where
       Going c side step s ps (drop i ps) n → Going c side step s ps (drop (i + 1) ps) r
   going_over_at {i} {n} capped h pos e k = rw e (going_over capped (at ps i) (drop (i + 1) ps) n pos (opened i n h k))
 
-  pub going_room_at : {i : ℕ} {n : Node} → i < length ps → Going c side step s ps (drop i ps) n →
-      Ahead c.body n (at ps i).height (part_resistance c.body (at ps i))
-  going_room_at {i} {n} h k = ahead_less (omega arith) (omega arith) (opened i n h k).ahead
-
-  pub going_end : {i : ℕ} {n : Node} → length ps ≤ i → Going c side step s ps (drop i ps) n → n ≡ head_over (step_by side c) (tip_by side c s) (slices step ps)
-  going_end {i} h k = rw (drop_all i ps h) at k.same
-
 pub going_start : (c : Case) → Capped c.tip → (side : Side) {step s : ℕ} {ps : List Part} {n : Node} → Room c.body step ps → s ≤ tip_range c.body →
     n ≡ tip_by side c s → Going c side step s ps ps n
 going_start c capped Lower {s = s} room start e =
@@ -127,9 +120,3 @@ going_start c capped Lower {s = s} room start e =
 going_start c capped Upper {s = s} room start e =
     let cap : tip_w c s ≤ c.body.tip_resistance = omega arith in
     rw e (going_tip c Upper room start (mul-le-mul_left c.body.tip_area cap) refl)
-
--- a march is the climb over its slices
-pub head_is : (shaft tip : Curve) (b : PileBody) (side : Side) (gs : List Part) (s : ℕ) →
-    head_over (step_by side (case_of shaft tip b [])) (tip_by side (case_of shaft tip b []) s) gs ≡ head_by side (case_of shaft tip b gs) s
-head_is shaft tip b Lower gs s = refl
-head_is shaft tip b Upper gs s = refl

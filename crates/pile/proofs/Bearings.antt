@@ -1,14 +1,12 @@
 -- Where the tops of the layers are, and that at most one layer bears at a depth.
 use Rattle.std.proofs.Common.{◌≡◌, ℕ, ◌+◌, ◌-◌, ◌<◌, ◌≤◌, List, length, get_or, take, drop, ap, ◌∙◌, inl, inr, arith}
 use Rattle.std.proofs.lemmas.Bool.{cases_order, cond-true, cond-false, lt-ltb, le-ltb}
-use Rattle.std.proofs.lemmas.List.{take_more, take-take, take_all, at_drop_more}
+use Rattle.std.proofs.lemmas.List.{take_more, take-take, at_drop_more}
 use Rattle.ground.specs.declared.layer.Layer.{Layer}
 use Rattle.ground.specs.Layers.{depth}
 use Rattle.ground.specs.Edits.{no_layer}
 use Rattle.ground.proofs.Tables.{depth_push, depth_take}
-use Rattle.pile.specs.declared.tip.Bearing.{Bearing}
 use Rattle.pile.specs.Bearing.{top_of, bearing_index, Bears, BearsAlone}
-use Rattle.pile.specs.Tip.{embedment}
 
 pub top_more : (ls : List Layer) (i : ℕ) (d : Layer) → i < length ls → top_of ls (i + 1) ≡ top_of ls i + (get_or ls i d).thickness
 top_more ls i d h = ap depth (take_more ls i d h) ∙ depth_push (take i ls) (get_or ls i d)
@@ -25,9 +23,6 @@ bears_once ls d i j a b = elim (cases_order j i) [
   ]
 ]
 
-pub top_all : (ls : List Layer) (i : ℕ) → length ls ≤ i → top_of ls i ≡ depth ls
-top_all ls i h = ap depth (take_all i ls h)
-
 -- a depth below the bottom of the layer of one index
 pub bearing_again : (ls : List Layer) (i at top : ℕ) → i < length ls → top ≤ at → (get_or ls i no_layer).thickness ≤ at - top
     → bearing_index ls at ≡ i + bearing_index (drop i ls) (at - top)
@@ -42,19 +37,14 @@ bearing_again ls i at top h k t s =
     omega arith
 
 -- a depth in the layer of one index
-pub bears_here : (ls : List Layer) (i at top index : ℕ) → i < length ls → index ≡ i → top ≡ top_of ls i → top ≤ at
+pub bears_here : (ls : List Layer) (i at top : ℕ) → i < length ls → top ≡ top_of ls i → top ≤ at
     → bearing_index ls at ≡ i + bearing_index (drop i ls) (at - top)
     → at - top < (get_or ls i no_layer).thickness
-    → BearsAlone ls at (record { index = index; top = top })
-bears_here ls i at top index h e p k s t =
+    → BearsAlone ls at (record { index = i; top = top })
+bears_here ls i at top h p k s t =
     let l = get_or ls i no_layer in
     let step : bearing_index (drop i ls) (at - top) ≡ 0
     = at_drop_more (λ zs. bearing_index zs (at - top)) ls i no_layer h ∙ cond-true _ _ _ (lt-ltb (at - top) l.thickness t) in
-    let tops = ap (top_of ls) e in
-    let bottoms = ap (λ x. top_of ls (x + 1)) e in
     let more = top_more ls i no_layer h in
-    let it : Bears ls at index = record { there = omega arith; top = omega arith; bottom = omega arith } in
-    record { bears = it; alone = λ j b. bears_once ls at index j it b; same = omega arith; top = omega arith }
-
-pub embedment_same : (ls : List Layer) (d e : ℕ) (b : Bearing) → BearsAlone ls d b → e ≡ d - b.top → e ≡ embedment ls d
-embedment_same ls d e b h q = q ∙ ap (λ t. d - t) (h.top ∙ ap (top_of ls) h.same)
+    let it : Bears ls at i = record { there = h; top = omega arith; bottom = omega arith } in
+    record { bears = it; alone = λ j b. bears_once ls at i j it b; same = omega arith; top = p }

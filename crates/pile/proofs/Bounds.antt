@@ -1,6 +1,7 @@
 -- The limits that the numbers of a pile, of a layer and of a list of frictions keep.
-use Rattle.std.proofs.Common.{◌≡◌, ℕ, zero, suc, ◌%◌, ◌<◌, ◌≤◌, true, false, not, ◌&&◌, eqb, ltb, List, [], ◌∷◌, ◌++◌, length, get_or, refl, arith}
-use Rattle.std.proofs.lemmas.Bool.{and_parts, and_from, not-true, not-false, not_from_false, or_parts, ltb-false, eqb-true}
+use Rattle.std.proofs.Common.{◌≡◌, ℕ, ◌%◌, ◌<◌, ◌≤◌, true, false, not, ◌&&◌, eqb, List, length, get_or}
+use Rattle.std.proofs.lemmas.Bool.{not-true, not-false, or_parts, ltb-false, eqb-true}
+use Rattle.std.proofs.lemmas.List.Sums.{AllPass-from_list_all}
 use Rattle.terms.specs.declared.refusal.Refusal.TheVariants.{PileNumber, OddDiameter, VibrodrivenCategory, LayerNumber}
 use Rattle.terms.specs.Limits.{outside, Within, category_limits, mark_limits, vibrodriven_limits, diameter_limits, perimeter_limits, area_limits, pile_modulus_limits, length_limits, tip_factor_limits, step_limits, soil_limits, thickness_limits, pressure_limits, modulus_limits, ceiling_limits, friction_limits}
 use Rattle.terms.specs.Chains.{when}
@@ -76,13 +77,4 @@ layer_bounds l h =
 
 -- one friction of a moderate list
 pub moderate_at : (qs : List ℕ) (i d : ℕ) → i < length qs → all_moderate qs ≡ true → get_or qs i d ≤ 500000
-moderate_at [] i d b h = absurd (omega arith)
-moderate_at (q ∷ qs) zero d b h =
-    ltb-false 500000 q (or_parts (ltb q 0) (ltb 500000 q) (not-true (outside friction_limits q) (and_parts (not (outside friction_limits q)) (all_moderate qs) h).0)).1
-moderate_at (q ∷ qs) (suc i) d b h = moderate_at qs i d (omega arith) (and_parts (not (outside friction_limits q)) (all_moderate qs) h).1
-
-pub moderate_push : (qs : List ℕ) (q : ℕ) → all_moderate qs ≡ true → outside friction_limits q ≡ false → all_moderate (qs ++ q ∷ []) ≡ true
-moderate_push [] q h e = and_from _ _ (not_from_false _ e) refl
-moderate_push (p ∷ qs) q h e =
-    let k = and_parts (not (outside friction_limits p)) (all_moderate qs) h in
-    and_from _ _ k.0 (moderate_push qs q k.1 e)
+moderate_at qs i d b h = ltb-false 500000 _ (or_parts _ _ (not-true _ (AllPass-from_list_all (λ q. not (outside friction_limits q)) qs h i d b))).1

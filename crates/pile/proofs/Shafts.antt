@@ -1,11 +1,10 @@
 -- The resistance along a shaft, a layer at a time, and how great it can be.
-use Rattle.std.proofs.Common.{◌≡◌, ℕ, zero, suc, ◌+◌, ◌-◌, ◌*◌, ◌<◌, ◌≤◌, min, ltb, List, [], ◌∷◌, length, get_or, drop, refl, ap, ◌∙◌, inl, inr, mul-le-mul, mul-le-mul_left, arith}
-use Rattle.std.proofs.lemmas.Bool.{cases_lt, cond-true, lt-ltb}
-use Rattle.std.proofs.lemmas.List.{at_drop_more, at_drop_all}
+use Rattle.std.proofs.Common.{◌≡◌, ℕ, zero, suc, ◌+◌, ◌-◌, ◌*◌, ◌≤◌, min, ltb, List, [], ◌∷◌, true, ◌⊎◌, refl, ap, ◌∙◌, inl, inr, mul-le-mul, mul-le-mul_left, arith}
+use Rattle.std.proofs.lemmas.Bool.{cond-true, lt-ltb}
 use Rattle.ground.specs.declared.layer.Layer.{Layer}
-use Rattle.ground.specs.Edits.{no_layer}
-use Rattle.pile.specs.declared.numbers.PileNumbers.{PileNumbers}
-use Rattle.pile.specs.Shaft.{max_resistance, ShaftPart, parts_above, shaft_resistance}
+use Rattle.pile.specs.Frictions.{all_moderate}
+use Rattle.pile.specs.Shaft.{ShaftPart, parts_above, shaft_resistance}
+use Rattle.pile.proofs.Bounds.{moderate_at}
 
 shaft_none : (P : ℕ) (ls : List Layer) (qs : List ℕ) → shaft_resistance P (parts_above 0 ls) qs ≡ 0
 shaft_none P [] qs = refl
@@ -29,50 +28,32 @@ shaft_more P (suc d) l ls q qs =
     let left : suc d - l.thickness ≡ suc d - min l.thickness (suc d) = omega arith in
     ap (λ ss. shaft_resistance P ss (q ∷ qs)) there ∙ ap (λ x. P * min l.thickness (suc d) * q + shaft_resistance P (parts_above x ls) qs) left
 
--- the layer and the friction of one index apart
-pub shaft_step : (P d : ℕ) (ls : List Layer) (qs : List ℕ) (i : ℕ) (l : Layer) (q : ℕ) → i < length ls → i < length qs
-    → shaft_resistance P (parts_above d (drop i ls)) (drop i qs)
-    ≡ P * min (get_or ls i l).thickness d * get_or qs i q + shaft_resistance P (parts_above (d - min (get_or ls i l).thickness d) (drop (i + 1) ls)) (drop (i + 1) qs)
-shaft_step P d ls qs i l q h k =
-    at_drop_more (λ zs. shaft_resistance P (parts_above d zs) (drop i qs)) ls i l h
-    ∙ at_drop_more (λ ys. shaft_resistance P (parts_above d (get_or ls i l ∷ drop (i + 1) ls)) ys) qs i q k
-    ∙ shaft_more P d (get_or ls i l) (drop (i + 1) ls) (get_or qs i q) (drop (i + 1) qs)
+-- the uppermost layer and the first friction apart
+pub shaft_turn : (P left sum whole h : ℕ) (l : Layer) (q : ℕ) (zs ls : List Layer) (ys qs : List ℕ) → zs ≡ l ∷ ls → ys ≡ q ∷ qs → h ≡ min l.thickness left
+    → sum + shaft_resistance P (parts_above left zs) ys ≡ whole
+    → sum + P * h * q + shaft_resistance P (parts_above (left - h) ls) qs ≡ whole
+shaft_turn P left sum whole h l q zs ls ys qs a b e s =
+    let step = shaft_more P left l ls q qs in
+    let same : sum + P * h * q + shaft_resistance P (parts_above (left - h) ls) qs ≡ sum + shaft_resistance P (parts_above left zs) ys = rw (a, b, e) (omega arith) in
+    same ∙ s
 
-pub shaft_again : (P left sum whole h : ℕ) (ls : List Layer) (qs : List ℕ) (i : ℕ) → i < length ls → i < length qs
-    → h ≡ min (get_or ls i no_layer).thickness left
-    → sum + shaft_resistance P (parts_above left (drop i ls)) (drop i qs) ≡ whole
-    → sum + P * h * get_or qs i 0 + shaft_resistance P (parts_above (left - h) (drop (i + 1) ls)) (drop (i + 1) qs) ≡ whole
-shaft_again P left sum whole h ls qs i a b e s =
-    let step = shaft_step P left ls qs i no_layer 0 a b in
-    let part : P * h * get_or qs i 0 ≡ P * min (get_or ls i no_layer).thickness left * get_or qs i 0 = ap (λ x. P * x * get_or qs i 0) e in
-    let rest : shaft_resistance P (parts_above (left - h) (drop (i + 1) ls)) (drop (i + 1) qs) ≡ shaft_resistance P (parts_above (left - min (get_or ls i no_layer).thickness left) (drop (i + 1) ls)) (drop (i + 1) qs)
-    = ap (λ x. shaft_resistance P (parts_above (left - x) (drop (i + 1) ls)) (drop (i + 1) qs)) e in
-    omega arith
-
--- past the last layer or the last friction
-pub shaft_end : (P d : ℕ) (ls : List Layer) (qs : List ℕ) (i : ℕ) → min (length ls) (length qs) ≤ i → shaft_resistance P (parts_above d (drop i ls)) (drop i qs) ≡ 0
-shaft_end P d ls qs i h =
-    elim (cases_lt i (length ls)) [
-      | inr a ↦ at_drop_all (λ zs. shaft_resistance P (parts_above d zs) (drop i qs)) ls i a
-      | inl b ↦ at_drop_all (λ ys. shaft_resistance P (parts_above d (drop i ls)) ys) qs i (omega arith) ∙ shaft_free P (parts_above d (drop i ls))
+-- no layer or no friction is left
+pub shaft_end : (P d : ℕ) (ls : List Layer) (qs : List ℕ) → (ls ≡ []) ⊎ (qs ≡ []) → shaft_resistance P (parts_above d ls) qs ≡ 0
+shaft_end P d ls qs h =
+    elim h [
+      | inl a ↦ ap (λ zs. shaft_resistance P (parts_above d zs) qs) a
+      | inr b ↦ ap (λ ys. shaft_resistance P (parts_above d ls) ys) b ∙ shaft_free P (parts_above d ls)
     ]
 
 -- what one part adds is at most what the greatest friction adds on its height
-pub part_size : (P h q left rest sum most : ℕ) → q ≤ 500000 → left ≡ h + rest → sum + 500000 * (P * left) ≤ most → sum + P * h * q + 500000 * (P * rest) ≤ most
-part_size P h q left rest sum most k e s =
-    let part = mul-le-mul_left (P * h) k in
-    let split = ap (λ x. P * x) e in
+pub part_size : (P h q left sum most : ℕ) (qs : List ℕ) → all_moderate (q ∷ qs) ≡ true → h ≤ left → sum + 500000 * (P * left) ≤ most
+    → sum + P * h * q + 500000 * (P * (left - h)) ≤ most
+part_size P h q left sum most qs k e s =
+    let part = mul-le-mul_left (P * h) (moderate_at (q ∷ qs) 0 0 (omega arith) k) in
+    let rest : left ≡ h + (left - h) = omega arith in
+    let split = ap (λ x. P * x) rest in
     omega arith
 
 -- the greatest perimeter, length and friction
 pub shaft_size : (P d : ℕ) → P ≤ 10000 → d ≤ 25000 → 500000 * (P * d) ≤ 125000000000000
 shaft_size P d p l = omega (arith, mul-le-mul p l)
-
--- under the tip and along the shaft, where each is told by an equal number
-pub resistance_same : (ls zs : List Layer) (n r : PileNumbers) (qs ys : List ℕ) (q under along : ℕ) → r ≡ n → zs ≡ ls → ys ≡ qs → q ≡ under
-    → along ≡ shaft_resistance r.perimeter (parts_above r.length zs) ys
-    → r.tip_area * q + along ≡ n.tip_area * under + shaft_resistance n.perimeter (parts_above n.length ls) qs
-resistance_same ls zs n r qs ys q under along a b c d e = cc
-
-pub resistance_size : (area q along : ℕ) → area ≤ 8000000 → q ≤ 40000000 → along ≤ 125000000000000 → area * q + along ≤ max_resistance
-resistance_size area q along a b c = omega (arith, mul-le-mul a b)

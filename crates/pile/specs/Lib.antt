@@ -6,3 +6,4 @@ pub mod Tip
 pub mod Shaft
 pub mod Frictions
 pub mod FrictionList
+pub mod Footing

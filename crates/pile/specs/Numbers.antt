@@ -25,12 +25,15 @@ stiffness_flaw n =
     (or_else (when (outside tip_factor_limits n.tip_factor) (PileNumber 9))
     (when (outside step_limits n.step) (PileNumber 10)))))
 
+abbrev pub vibrodriven : PileNumbers → Bool
+vibrodriven n = n.mark == 1
+
 -- all numbers from the first, then the mark against its categories
 abbrev pub pile_flaw : PileNumbers → Option Refusal
 pile_flaw n =
     or_else (shape_flaw n)
     (or_else (stiffness_flaw n)
-    (when (n.mark == 1 && outside vibrodriven_limits n.category) VibrodrivenCategory))
+    (when (vibrodriven n && outside vibrodriven_limits n.category) VibrodrivenCategory))
 
 abbrev pub sturdy : PileNumbers → Bool
 sturdy n = not (is_some (pile_flaw n))

@@ -2,6 +2,7 @@
 #![tactic(auto)]
 
 pub mod driven;
+pub mod footing;
 pub mod frictions;
 pub mod numbers;
 pub mod resistance;

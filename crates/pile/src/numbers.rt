@@ -1,6 +1,7 @@
 // The numbers of a pile, as the designer gives them.
 ghost use Rattle.std.specs.Prelude.{◌≡◌};
-ghost use Rattle.pile.specs.Numbers.{pile_flaw, shape_flaw, stiffness_flaw};
+ghost use Rattle.terms.specs.Chains.{unless};
+ghost use Rattle.pile.specs.Numbers.{pile_flaw, shape_flaw, stiffness_flaw, vibrodriven};
 
 use terms::limits::{
     AREA, CATEGORY, DIAMETER, LENGTH, MARK, PERIMETER, PILE_MODULUS, STEP, TIP_FACTOR,
@@ -33,67 +34,50 @@ pub struct PileNumbers {
     pub step: u64,
 }
 
+// The mark of a vibrodriven pile.
+const VIBRODRIVEN: u64 = 1;
+
 impl PileNumbers {
-    // The first flaw of category, mark, diameter, perimeter and tip area.
-    fn shape_flaw(&self) -> Option<Refusal>
-        ensures { result ≡ shape_flaw self.now }
+    pub fn is_vibrodriven(&self) -> bool
+        ensures { result ≡ vibrodriven self.now }
     {
-        if CATEGORY.excludes(self.category) {
-            return Some(Refusal::PileNumber { field: 1 });
-        }
-        if MARK.excludes(self.mark) {
-            return Some(Refusal::PileNumber { field: 2 });
-        }
-        if DIAMETER.excludes(self.diameter) {
-            return Some(Refusal::PileNumber { field: 3 });
-        }
+        self.mark == VIBRODRIVEN
+    }
+
+    // The first flaw of category, mark, diameter, perimeter and tip area.
+    fn check_shape(&self) -> Result<(), Refusal>
+        ensures { result ≡ unless (shape_flaw self.now) }
+    {
+        CATEGORY.admit(self.category, Refusal::PileNumber { field: 1 })?;
+        MARK.admit(self.mark, Refusal::PileNumber { field: 2 })?;
+        DIAMETER.admit(self.diameter, Refusal::PileNumber { field: 3 })?;
         if self.diameter % 2 != 0 {
-            return Some(Refusal::OddDiameter);
+            return Err(Refusal::OddDiameter);
         }
-        if PERIMETER.excludes(self.perimeter) {
-            return Some(Refusal::PileNumber { field: 4 });
-        }
-        if AREA.excludes(self.tip_area) {
-            return Some(Refusal::PileNumber { field: 5 });
-        }
-        None
+        PERIMETER.admit(self.perimeter, Refusal::PileNumber { field: 4 })?;
+        AREA.admit(self.tip_area, Refusal::PileNumber { field: 5 })
     }
 
     // The first flaw of section, modulus, length, tip factor and step.
-    fn stiffness_flaw(&self) -> Option<Refusal>
-        ensures { result ≡ stiffness_flaw self.now }
+    fn check_stiffness(&self) -> Result<(), Refusal>
+        ensures { result ≡ unless (stiffness_flaw self.now) }
     {
-        if AREA.excludes(self.section) {
-            return Some(Refusal::PileNumber { field: 6 });
-        }
-        if PILE_MODULUS.excludes(self.modulus) {
-            return Some(Refusal::PileNumber { field: 7 });
-        }
-        if LENGTH.excludes(self.length) {
-            return Some(Refusal::PileNumber { field: 8 });
-        }
-        if TIP_FACTOR.excludes(self.tip_factor) {
-            return Some(Refusal::PileNumber { field: 9 });
-        }
-        if STEP.excludes(self.step) {
-            return Some(Refusal::PileNumber { field: 10 });
-        }
-        None
+        AREA.admit(self.section, Refusal::PileNumber { field: 6 })?;
+        PILE_MODULUS.admit(self.modulus, Refusal::PileNumber { field: 7 })?;
+        LENGTH.admit(self.length, Refusal::PileNumber { field: 8 })?;
+        TIP_FACTOR.admit(self.tip_factor, Refusal::PileNumber { field: 9 })?;
+        STEP.admit(self.step, Refusal::PileNumber { field: 10 })
     }
 
     // The first number outside its limits, or else a vibrodriven mark in a category that knows none.
-    pub fn flaw(&self) -> Option<Refusal>
-        ensures { result ≡ pile_flaw self.now }
+    pub fn check(&self) -> Result<(), Refusal>
+        ensures { result ≡ unless (pile_flaw self.now) }
     {
-        if let Some(refusal) = self.shape_flaw() {
-            return Some(refusal);
+        self.check_shape()?;
+        self.check_stiffness()?;
+        if self.is_vibrodriven() {
+            VIBRODRIVEN_CATEGORY.admit(self.category, Refusal::VibrodrivenCategory)?;
         }
-        if let Some(refusal) = self.stiffness_flaw() {
-            return Some(refusal);
-        }
-        if self.mark == 1 && VIBRODRIVEN_CATEGORY.excludes(self.category) {
-            return Some(Refusal::VibrodrivenCategory);
-        }
-        None
+        Ok(())
     }
 }

@@ -1,15 +1,15 @@
 // What a pile may be, the averaging around its tip, and its resistance, on small cases.
 use crate::driven::Pile;
-use crate::frictions::Frictions;
+use crate::footing::Footing;
+use crate::frictions::{Frictions, Unfit};
 use crate::numbers::PileNumbers;
-use crate::resistance::resistance;
-use crate::tip::{Bearing, bearing_layer, tip_resistance};
+use crate::tip::{Bearing, bearing_layer};
 use ground::layer::Layer;
 use ground::table::Ground;
 use std::test::Fail;
 use terms::refusal::Refusal;
 
-// Least and greatest number of each field.
+// Least and greatest number of each field; the mark is 0 in both.
 const LEAST: PileNumbers = PileNumbers {
     category: 1,
     mark: 0,
@@ -35,30 +35,6 @@ const MOST: PileNumbers = PileNumbers {
     tip_factor: 400,
     step: 1_000,
 };
-
-// One outside the limits for each field; the mark has nothing below.
-const TOO_LITTLE: [u64; 10] = [0, 2, 198, 599, 9_999, 9_999, 9_999, 499, 99, 99];
-
-const TOO_MUCH: [u64; 10] = [
-    21, 2, 3_002, 10_001, 8_000_001, 8_000_001, 210_001, 25_001, 401, 1_001,
-];
-
-// The numbers with another value in that field.
-fn with(mut numbers: PileNumbers, field: u64, value: u64) -> PileNumbers {
-    match field {
-        1 => numbers.category = value,
-        2 => numbers.mark = value,
-        3 => numbers.diameter = value,
-        4 => numbers.perimeter = value,
-        5 => numbers.tip_area = value,
-        6 => numbers.section = value,
-        7 => numbers.modulus = value,
-        8 => numbers.length = value,
-        9 => numbers.tip_factor = value,
-        _ => numbers.step = value,
-    }
-    numbers
-}
 
 fn sand(thickness: u64, pressure: u64) -> Layer {
     Layer {
@@ -87,33 +63,116 @@ fn bored(length: u64) -> PileNumbers {
 
 #[test]
 fn takes_the_limits(rt: HostRuntime) {
-    assert_eq!(rt; LEAST.flaw(), None);
-    assert_eq!(rt; MOST.flaw(), None);
+    assert_eq!(rt; LEAST.check(), Ok(()));
+    assert_eq!(rt; MOST.check(), Ok(()));
+}
+
+// In the order of the fields; the mark has nothing below its limits.
+#[test]
+fn refuses_each_number_below_its_limits(rt: HostRuntime) {
+    let too_little = [
+        PileNumbers {
+            category: 0,
+            ..LEAST
+        },
+        PileNumbers { mark: 2, ..LEAST },
+        PileNumbers {
+            diameter: 198,
+            ..LEAST
+        },
+        PileNumbers {
+            perimeter: 599,
+            ..LEAST
+        },
+        PileNumbers {
+            tip_area: 9_999,
+            ..LEAST
+        },
+        PileNumbers {
+            section: 9_999,
+            ..LEAST
+        },
+        PileNumbers {
+            modulus: 9_999,
+            ..LEAST
+        },
+        PileNumbers {
+            length: 499,
+            ..LEAST
+        },
+        PileNumbers {
+            tip_factor: 99,
+            ..LEAST
+        },
+        PileNumbers { step: 99, ..LEAST },
+    ];
+    for (place, numbers) in too_little.into_iter().enumerate() {
+        let field = place as u64 + 1;
+        assert_eq!(rt;
+            Pile::new(numbers).err(),
+            Some(Refusal::PileNumber { field })
+        );
+    }
+    let odd = PileNumbers {
+        diameter: 201,
+        ..LEAST
+    };
+    assert_eq!(rt; Pile::new(odd).err(), Some(Refusal::OddDiameter));
 }
 
 #[test]
-fn refuses_each_number_outside_its_limits(rt: HostRuntime) {
-    for place in 0..10 {
+fn refuses_each_number_above_its_limits(rt: HostRuntime) {
+    let too_much = [
+        PileNumbers {
+            category: 21,
+            ..MOST
+        },
+        PileNumbers { mark: 2, ..MOST },
+        PileNumbers {
+            diameter: 3_002,
+            ..MOST
+        },
+        PileNumbers {
+            perimeter: 10_001,
+            ..MOST
+        },
+        PileNumbers {
+            tip_area: 8_000_001,
+            ..MOST
+        },
+        PileNumbers {
+            section: 8_000_001,
+            ..MOST
+        },
+        PileNumbers {
+            modulus: 210_001,
+            ..MOST
+        },
+        PileNumbers {
+            length: 25_001,
+            ..MOST
+        },
+        PileNumbers {
+            tip_factor: 401,
+            ..MOST
+        },
+        PileNumbers {
+            step: 1_001,
+            ..MOST
+        },
+    ];
+    for (place, numbers) in too_much.into_iter().enumerate() {
         let field = place as u64 + 1;
-        let refusal = Some(Refusal::PileNumber { field });
         assert_eq!(rt;
-            Pile::new(with(LEAST, field, TOO_LITTLE[place])).err(),
-            refusal
-        );
-        assert_eq!(rt;
-            Pile::new(with(MOST, field, TOO_MUCH[place])).err(),
-            refusal
+            Pile::new(numbers).err(),
+            Some(Refusal::PileNumber { field })
         );
     }
-    assert_eq!(rt;
-        Pile::new(with(LEAST, 3, 201)).err(),
-        Some(Refusal::OddDiameter)
-    );
 }
 
 // The mark is held to the category only where every number is inside its limits.
 #[test]
-fn refuses_vibrodriven_last(rt: HostRuntime) {
+fn refuses_vibrodriven_last(rt: HostRuntime) -> Result<(), Fail> {
     let marked = PileNumbers {
         category: 12,
         mark: 1,
@@ -125,14 +184,15 @@ fn refuses_vibrodriven_last(rt: HostRuntime) {
         Pile::new(both).err(),
         Some(Refusal::PileNumber { field: 10 })
     );
-    assert_eq!(rt;
-        PileNumbers {
-            category: 13,
-            ..marked
-        }
-        .flaw(),
-        None
-    );
+    let driven = PileNumbers {
+        category: 13,
+        ..marked
+    };
+    assert_eq!(rt; driven.check(), Ok(()));
+    assert!(rt; driven.is_vibrodriven());
+    assert!(rt; !LEAST.is_vibrodriven());
+    assert_eq!(rt; Pile::new(driven)?.numbers(), driven);
+    Ok(())
 }
 
 // From the top of the bearing layer; from g above the tip it would be 1,775 kPa in place of 2,000.
@@ -142,7 +202,7 @@ fn averages_in_the_bearing_layer(rt: HostRuntime) -> Result<(), Fail> {
     ground.lay(sand(1_800, 500))?;
     ground.lay(sand(10_000, 2_000))?;
     let pile = Pile::new(bored(2_000))?;
-    assert_eq!(rt; tip_resistance(&ground, &pile), Ok(2_200_000));
+    assert_eq!(rt; Footing::new(&ground, &pile)?.tip_resistance(), 2_200_000);
     Ok(())
 }
 
@@ -160,7 +220,17 @@ fn bears_below_an_edge(rt: HostRuntime) -> Result<(), Fail> {
         })
     );
     assert_eq!(rt; bearing_layer(&ground, 3_500), None);
-    assert_eq!(rt; tip_resistance(&ground, &pile), Ok(2_200_000));
+    let footing = Footing::new(&ground, &pile)?;
+    assert_eq!(rt;
+        footing.bearing(),
+        Bearing {
+            index: 1,
+            top: 2_000
+        }
+    );
+    assert_eq!(rt; footing.tip_resistance(), 2_200_000);
+    assert_eq!(rt; footing.ground().depth(), 3_500);
+    assert_eq!(rt; footing.pile().numbers(), pile.numbers());
     Ok(())
 }
 
@@ -170,8 +240,8 @@ fn refuses_shallow_ground(rt: HostRuntime) -> Result<(), Fail> {
     ground.lay(sand(3_499, 2_000))?;
     let pile = Pile::new(bored(2_000))?;
     assert_eq!(rt;
-        tip_resistance(&ground, &pile),
-        Err(Refusal::ShallowGround { depth: 3_500 })
+        Footing::new(&ground, &pile).err(),
+        Some(Refusal::ShallowGround { depth: 3_500 })
     );
     Ok(())
 }
@@ -182,18 +252,22 @@ fn adds_tip_and_shaft(rt: HostRuntime) -> Result<(), Fail> {
     ground.lay(sand(10_000, 2_000))?;
     let pile = Pile::new(bored(1_000))?;
     let mut frictions = Frictions::new();
-    assert!(rt; frictions.push(50_000));
-    assert_eq!(rt; resistance(&ground, &pile, &frictions), Ok(471_000_000_000));
+    frictions.push(50_000)?;
+    assert_eq!(rt;
+        Footing::new(&ground, &pile)?.resistance(&frictions),
+        471_000_000_000
+    );
     Ok(())
 }
 
 #[test]
-fn holds_32_frictions(rt: HostRuntime) {
+fn holds_32_frictions(rt: HostRuntime) -> Result<(), Fail> {
     let mut frictions = Frictions::new();
-    assert!(rt; !frictions.push(500_001));
+    assert_eq!(rt; frictions.push(500_001), Err(Unfit::TooGreat));
     for _ in 0..32 {
-        assert!(rt; frictions.push(500_000));
+        frictions.push(500_000)?;
     }
-    assert!(rt; !frictions.push(0));
+    assert_eq!(rt; frictions.push(0), Err(Unfit::Full));
     assert_eq!(rt; frictions.values().len(), 32);
+    Ok(())
 }

@@ -1,17 +1,17 @@
 // The bearing layer, the pressure averaged around the tip, and the tip resistance.
 ghost use Rattle.std.specs.Prelude.{◌≡◌, ◌≤◌, MatchOption};
 ghost use Rattle.terms.specs.Limits.{unit_resistance_limits};
-ghost use Rattle.terms.specs.Chains.{Answers};
 ghost use Rattle.ground.specs.Layers.{depth};
 ghost use Rattle.ground.specs.Table.{strata};
 ghost use Rattle.pile.specs.Driven.{numbers_of};
 ghost use Rattle.pile.specs.Pressure.{integral};
 ghost use Rattle.pile.specs.Bearing.{BearsAlone};
-ghost use Rattle.pile.specs.Tip.{half_height, needed_depth, shallow_refusal, tip_resistance};
+ghost use Rattle.pile.specs.Tip.{half_height, needed_depth, tip_resistance};
+ghost use Rattle.pile.specs.Footing.{layers_under, numbers_on};
 
 use crate::driven::Pile;
+use crate::footing::Footing;
 use ground::table::Ground;
-use terms::refusal::Refusal;
 
 // The least half height of the averaging, mm.
 const LEAST_HALF_HEIGHT: u64 = 500;
@@ -53,13 +53,12 @@ pub fn bearing_layer(ground: &Ground, at: u64) -> Option<Bearing>
     ensures { MatchOption result (depth (strata ground.now) ≤ at) (λ b. BearsAlone (strata ground.now) at b) }
 {
     let mut top = 0;
-    let mut index = 0;
-    for layer in ground.layers() {
+    for (index, layer) in ground.layers().iter().enumerate() {
         if at - top < layer.thickness {
+            let index = index as u64;
             return Some(Bearing { index, top });
         }
         top += layer.thickness;
-        index += 1;
     }
     None
 }
@@ -78,21 +77,24 @@ pub fn depth_needed(pile: &Pile) -> u64
     pile.numbers().length + HALF_HEIGHTS_BELOW * half_height(pile)
 }
 
-// qb in Pa, or a refusal where the ground ends above the averaging's.
-pub fn tip_resistance(ground: &Ground, pile: &Pile) -> Result<u64, Refusal>
-    ensures { Answers (shallow_refusal (strata ground.now) (numbers_of pile.now)) (λ q. (q ≡ tip_resistance (strata ground.now) (numbers_of pile.now)) × (q ≤ unit_resistance_limits.most)) result }
-{
-    let numbers = pile.numbers();
-    let tip = numbers.length;
-    let needed = depth_needed(pile);
-    if ground.depth() < needed {
-        return Err(Refusal::ShallowGround { depth: needed });
+impl Footing<'_> {
+    // The layer that bears the tip.
+    pub fn bearing(&self) -> Bearing
+        ensures { BearsAlone (layers_under self.now) (numbers_on self.now).length result }
+    {
+        bearing_layer(self.ground(), self.pile().numbers().length).unwrap()
     }
-    let embedment = match bearing_layer(ground, tip) {
-        Some(bearing) => tip - bearing.top,
-        None => 0,
-    };
-    let above = half_height(pile).min(embedment);
-    let integral = pressure_between(ground, tip - above, needed);
-    Ok(PASCALS * numbers.tip_factor * integral / (above + HALF_HEIGHTS_BELOW * half_height(pile)))
+
+    // qb in Pa.
+    pub fn tip_resistance(&self) -> u64
+        ensures value { result ≡ tip_resistance (layers_under self.now) (numbers_on self.now) }
+        ensures small { result ≤ unit_resistance_limits.most }
+    {
+        let numbers = self.pile().numbers();
+        let tip = numbers.length;
+        let above = half_height(self.pile()).min(tip - self.bearing().top);
+        let below = HALF_HEIGHTS_BELOW * half_height(self.pile());
+        let integral = pressure_between(self.ground(), tip - above, tip + below);
+        PASCALS * numbers.tip_factor * integral / (above + below)
+    }
 }

@@ -2,3 +2,4 @@ pub mod Nearness
 pub mod Margins
 pub mod OneLayer
 pub mod Sizes
+pub mod Granting

@@ -1,14 +1,14 @@
 -- One layer on in the fetching of frictions.
-use Rattle.std.proofs.Common.{◌≡◌, ℕ, ◌+◌, ◌-◌, ◌<◌, ◌≤◌, min, Bool, true, false, not, List, [], ◌∷◌, ◌++◌, length, get_or, drop, is_some, Some, None, Option, unwrap_or, sym, refl, ap, ◌∙◌, subst, arith}
+use Rattle.std.proofs.Common.{◌≡◌, ℕ, ◌+◌, ◌-◌, ◌<◌, min, not, List, [], ◌∷◌, ◌++◌, length, get_or, drop, is_some, Some, None, Option, Ok, Err, Result, unwrap_or, sym, refl, ap, ◌∙◌, arith}
 use Rattle.std.proofs.lemmas.List.{at_drop_more, append_assoc, append-nil}
 use Rattle.terms.specs.declared.refusal.Refusal.TheVariants.{NoFriction}
-use Rattle.terms.specs.Limits.{friction_limits, max_layers}
 use Rattle.terms.specs.Chains.{when, or_else}
 use Rattle.ground.specs.declared.layer.Layer.{Layer}
 use Rattle.ground.specs.Edits.{no_layer}
 use Rattle.pile.specs.declared.numbers.PileNumbers.{PileNumbers}
 use Rattle.pile.specs.declared.frictions.Frictions.{Frictions}
-use Rattle.pile.specs.FrictionList.{friction_list, no_room, Pushes}
+use Rattle.pile.specs.declared.frictions.Unfit.{Unfit}
+use Rattle.pile.specs.FrictionList.{friction_list, Pushes}
 use Rattle.pile.specs.Shaft.{ShaftPart, parts_above}
 use Rattle.resistance.specs.UnitFriction.{friction_of}
 use Rattle.resistance.specs.Fetched.{said_of, unsaid_from, frictions_of}
@@ -20,10 +20,10 @@ no_parts (l ∷ ls) = refl
 parts_next : (d : ℕ) (l : Layer) (ls : List Layer) → 0 < d → parts_above d (l ∷ ls) ≡ record { height = min l.thickness d; layer = l } ∷ parts_above (d - l.thickness) ls
 parts_next d l ls h = grind arith
 
--- there is room for a moderate friction, so it is at the end of the list
-pub pushed : (old new : Frictions) (q : ℕ) (r : Bool) → length (friction_list old) < max_layers → q ≤ friction_limits.most → Pushes old q r new → friction_list new ≡ friction_list old ++ q ∷ []
-pushed old new q true h k p = p.1
-pushed old new q false h k p = absurd (let f : no_room (friction_list old) q ≡ false = grind arith in let z : ◌≡◌ {A = ℕ} 0 1 = cc in omega arith)
+-- what fits is at the end of the list
+pub pushed : (old new : Frictions) (q : ℕ) (r : Result (Unit {0}) Unfit) (u : Unit {0}) → r ≡ Ok u → Pushes old q r new → friction_list new ≡ friction_list old ++ q ∷ []
+pushed old new q (Ok v) u e p = p.1
+pushed old new q (Err x) u e p = cc
 
 module _ (answer : ℕ → ℕ → ℕ → Option ℕ) (n : PileNumbers) (xs : List Layer) (i : ℕ) (inside : i < length xs) (d : ℕ) (more : 0 < d) where
   abbrev here : Layer
@@ -34,10 +34,6 @@ module _ (answer : ℕ → ℕ → ℕ → Option ℕ) (n : PileNumbers) (xs : L
 
   parts_here : parts_above d (drop i xs) ≡ record { height = min here.thickness d; layer = here } ∷ rest
   parts_here = at_drop_more (parts_above d) xs i no_layer inside ∙ parts_next d here (drop (i + 1) xs) more
-
-  pub refused_here : (k : ℕ) → said_of answer n here ≡ None → unsaid_from answer n k (parts_above d (drop i xs)) ≡ Some (NoFriction k)
-  refused_here k e =
-      ap (unsaid_from answer n k) parts_here ∙ ap (λ (o : Option ℕ). or_else (when (not (is_some o)) (NoFriction k)) (unsaid_from answer n (k + 1) rest)) e
 
   pub answered_here : (k a : ℕ) → said_of answer n here ≡ Some a → unsaid_from answer n k (parts_above d (drop i xs)) ≡ unsaid_from answer n (k + 1) rest
   answered_here k a e =
@@ -55,15 +51,10 @@ module _ (answer : ℕ → ℕ → ℕ → Option ℕ) (n : PileNumbers) (xs : L
       ∙ append_assoc was (friction_of n here a ∷ []) (frictions_of answer n rest)
       ∙ sym (ap (λ qs. was ++ qs) (friction_here a e)) ∙ h
 
--- what is shown of the numbers and layers at hand holds of those that they are
-pub at_site : (P : PileNumbers → List Layer → Type 0) (r n : PileNumbers) (xs ls : List Layer) → r ≡ n → xs ≡ ls → P r xs → P n ls
-at_site P r n xs ls e f p = subst (λ (m : PileNumbers). P m ls) e (subst (λ (ys : List Layer). P r ys) f p)
-
 -- nothing is left to come
-pub all_fetched : (answer : ℕ → ℕ → ℕ → Option ℕ) (r n : PileNumbers) (xs ls : List Layer) (qs : List ℕ) (k : ℕ) (rest : List ShaftPart) → r ≡ n → xs ≡ ls → rest ≡ []
-    → qs ++ frictions_of answer r rest ≡ frictions_of answer r (parts_above r.length xs)
-    → unsaid_from answer r k rest ≡ unsaid_from answer r 0 (parts_above r.length xs)
-    → (unsaid_from answer n 0 (parts_above n.length ls) ≡ None) × (qs ≡ frictions_of answer n (parts_above n.length ls))
-all_fetched answer r n xs ls qs k rest e f none h u =
-    at_site (λ m ys. (unsaid_from answer m 0 (parts_above m.length ys) ≡ None) × (qs ≡ frictions_of answer m (parts_above m.length ys))) r n xs ls e f
-    (sym u ∙ ap (unsaid_from answer r k) none, sym (append-nil qs) ∙ sym (ap (λ ss. qs ++ frictions_of answer r ss) none) ∙ h)
+pub all_fetched : (answer : ℕ → ℕ → ℕ → Option ℕ) (n : PileNumbers) (whole left : List ShaftPart) (qs : List ℕ) (k : ℕ) → left ≡ []
+    → qs ++ frictions_of answer n left ≡ frictions_of answer n whole
+    → unsaid_from answer n k left ≡ unsaid_from answer n 0 whole
+    → (unsaid_from answer n 0 whole ≡ None) × (qs ≡ frictions_of answer n whole)
+all_fetched answer n whole left qs k none h u =
+    (sym u ∙ ap (unsaid_from answer n k) none, sym (append-nil qs) ∙ sym (ap (λ ss. qs ++ frictions_of answer n ss) none) ∙ h)

@@ -14,10 +14,14 @@ use Rattle.calls.specs.declared.Judgement.{Judgement}
 use Rattle.resistance.specs.Fetched.{unsaid_from}
 use Rattle.resistance.specs.Resistance.{resistance_by, exact_resistance, margin_of}
 
+-- a load in kN outside its limits
+abbrev pub load_flaw : ℕ → Option Refusal
+load_flaw load = when (outside load_limits load) (QuestionNumber 1)
+
 -- the first number of a question outside its limits: load, model factor, resistance factor
 abbrev pub question_flaw : Question → Option Refusal
 question_flaw q =
-    or_else (when (outside load_limits q.load) (QuestionNumber 1))
+    or_else (load_flaw q.load)
     (or_else (when (outside factor_limits q.model_factor) (QuestionNumber 2))
     (when (outside factor_limits q.resistance_factor) (QuestionNumber 3)))
 

@@ -20,9 +20,7 @@ use terms::refusal::Refusal;
 // Pa in a kPa
 const KILO: u64 = 1_000;
 
-// The mark of a vibrodriven pile, and what it leaves of the friction, in tenths.
-const VIBRODRIVEN: u64 = 1;
-
+// What the mark of a vibrodriven pile leaves of the friction, in tenths.
 const VIBRODRIVEN_TENTHS: u64 = 7;
 
 const TENTHS: u64 = 10;
@@ -34,7 +32,7 @@ fn friction_of(numbers: &PileNumbers, layer: &Layer, answer: u64) -> u64
     ensures moderate { result ≤ friction_limits.most }
 {
     let limited = answer.min(KILO * layer.ceiling);
-    if numbers.mark == VIBRODRIVEN {
+    if numbers.is_vibrodriven() {
         VIBRODRIVEN_TENTHS * limited / TENTHS
     } else {
         limited
@@ -48,17 +46,19 @@ pub fn fetch<R: FrictionRule>(rule: &R, ground: &Ground, pile: &Pile) -> Result<
     let numbers = pile.numbers();
     let mut frictions = Frictions::new();
     let mut left = numbers.length;
-    let mut index = 0;
-    for layer in ground.layers() {
+    for (index, layer) in ground.layers().iter().enumerate() {
         if left == 0 {
-            return Ok(frictions);
+            break;
         }
-        let Some(answer) = rule.ask(layer.soil, numbers.category, layer.pressure) else {
-            return Err(Refusal::NoFriction { index });
-        };
-        let _ = frictions.push(friction_of(&numbers, layer, answer));
+        let index = index as u64;
+        let answer = rule
+            .ask(layer.soil, numbers.category, layer.pressure)
+            .ok_or(Refusal::NoFriction { index })?;
+        // It always fits: a ground has no more layers than a list has places, and no friction of a layer is too great.
+        frictions
+            .push(friction_of(&numbers, layer, answer))
+            .unwrap();
         left = left.saturating_sub(layer.thickness);
-        index += 1;
     }
     Ok(frictions)
 }

@@ -1,18 +1,17 @@
 // Judging a pile: its resistance, its design capacity, and whether that carries the load.
 ghost use Rattle.std.specs.Prelude.{◌≡◌, ◌≤◌, None};
-ghost use Rattle.terms.specs.Chains.{Answers, or_else};
+ghost use Rattle.terms.specs.Chains.{Answers, or_else, unless};
 ghost use Rattle.ground.specs.Table.{strata};
 ghost use Rattle.pile.specs.Driven.{numbers_of};
 ghost use Rattle.pile.specs.Shaft.{max_resistance};
-ghost use Rattle.resistance.specs.Judging.{question_flaw, site_refusal, judgement_of, JudgedRightly};
+ghost use Rattle.resistance.specs.Judging.{load_flaw, question_flaw, site_refusal, judgement_of, JudgedRightly};
 
 use crate::fetching::fetch;
 use calls::{Judgement, Question};
 use friction::rule::FrictionRule;
 use ground::table::Ground;
 use pile::driven::Pile;
-use pile::resistance::resistance;
-use pile::tip::depth_needed;
+use pile::footing::Footing;
 use terms::limits::{FACTOR, LOAD};
 use terms::refusal::Refusal;
 
@@ -22,20 +21,23 @@ const THOUSAND: u64 = 1_000;
 // µN in a kN
 pub const MICRONEWTONS: u64 = 1_000_000_000;
 
-// The first number of a question outside its limits.
-pub fn flaw_of(question: &Question) -> Option<Refusal>
-    ensures { result ≡ question_flaw question.now }
+// A load in kN, as every question has it.
+pub fn check_load(load: u64) -> Result<(), Refusal>
+    ensures { result ≡ unless (load_flaw load) }
 {
-    if LOAD.excludes(question.load) {
-        return Some(Refusal::QuestionNumber { field: 1 });
-    }
-    if FACTOR.excludes(question.model_factor) {
-        return Some(Refusal::QuestionNumber { field: 2 });
-    }
-    if FACTOR.excludes(question.resistance_factor) {
-        return Some(Refusal::QuestionNumber { field: 3 });
-    }
-    None
+    LOAD.admit(load, Refusal::QuestionNumber { field: 1 })
+}
+
+// The first number of a question outside its limits.
+pub fn check_question(question: &Question) -> Result<(), Refusal>
+    ensures { result ≡ unless (question_flaw question.now) }
+{
+    check_load(question.load)?;
+    FACTOR.admit(question.model_factor, Refusal::QuestionNumber { field: 2 })?;
+    FACTOR.admit(
+        question.resistance_factor,
+        Refusal::QuestionNumber { field: 3 },
+    )
 }
 
 // Capacity and verdict of a resistance.
@@ -61,19 +63,8 @@ pub fn judge<R: FrictionRule>(
 ) -> Result<Judgement, Refusal>
     ensures { Answers (or_else (question_flaw question.now) (site_refusal (R.FrictionRule.answer rule.now) (strata ground.now) (numbers_of pile.now))) (JudgedRightly R.FrictionRule.tolerance (R.FrictionRule.fraction rule.now) (R.FrictionRule.answer rule.now) (strata ground.now) (numbers_of pile.now) question.now) result }
 {
-    if let Some(refusal) = flaw_of(question) {
-        return Err(refusal);
-    }
-    let needed = depth_needed(pile);
-    if ground.depth() < needed {
-        return Err(Refusal::ShallowGround { depth: needed });
-    }
-    let frictions = match fetch(rule, ground, pile) {
-        Ok(frictions) => frictions,
-        Err(refusal) => return Err(refusal),
-    };
-    match resistance(ground, pile, &frictions) {
-        Ok(resistance) => Ok(judgement(resistance, question)),
-        Err(refusal) => Err(refusal),
-    }
+    check_question(question)?;
+    let footing = Footing::new(ground, pile)?;
+    let frictions = fetch(rule, ground, pile)?;
+    Ok(judgement(footing.resistance(&frictions), question))
 }

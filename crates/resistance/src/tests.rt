@@ -1,6 +1,6 @@
 // Judgements of a pile of 1 m, each reckoned by hand, and the order of refusals.
 use crate::fetching::fetch;
-use crate::judging::judge;
+use crate::judging::{check_load, check_question, judge};
 use crate::margin::margin;
 use calls::{Judgement, Question};
 use friction::cone::ConePressuremeter;
@@ -85,6 +85,17 @@ fn takes_seven_tenths_of_the_ceiling(rt: HostRuntime) -> Result<(), Fail> {
     let judgement = judge(&Pressuremeter, &ground, &pile, &asked(300, 1_000, 1_000))?;
     assert_eq!(rt; judgement.resistance, 448_500_000_000);
     Ok(())
+}
+
+#[test]
+fn takes_the_limits_of_a_question(rt: HostRuntime) {
+    assert_eq!(rt; check_question(&asked(1, 1_000, 2_000)), Ok(()));
+    assert_eq!(rt;
+        check_question(&asked(1_000_001, 1_000, 2_000)),
+        Err(Refusal::QuestionNumber { field: 1 })
+    );
+    assert_eq!(rt; check_load(1_000_000), Ok(()));
+    assert_eq!(rt; check_load(0), Err(Refusal::QuestionNumber { field: 1 }));
 }
 
 #[test]

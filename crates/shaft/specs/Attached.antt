@@ -57,6 +57,9 @@ case_on shaft tip ls n qs = case_of shaft tip (body_on ls n) (slices n.step (par
 abbrev pub overstrained : List Layer → PileNumbers → List ℕ → Bool
 overstrained ls n qs = nat_lt (most_strain * stiffness_of n) (resistance_over ls n qs)
 
+abbrev pub strain_refusal : List Layer → PileNumbers → List ℕ → Option Refusal
+strain_refusal ls n qs = when (overstrained ls n qs) OverstrainedPile
+
 -- why there is no shaft to march over: the ground ends above what the tip needs, or the resistance overstrains the pile
 abbrev pub shaft_refusal : List Layer → PileNumbers → List ℕ → Option Refusal
-shaft_refusal ls n qs = or_else (shallow_refusal ls n) (when (overstrained ls n qs) OverstrainedPile)
+shaft_refusal ls n qs = or_else (shallow_refusal ls n) (strain_refusal ls n qs)

@@ -4,6 +4,7 @@ use column::{Part, PileBody};
 use ground::layer::Layer;
 use ground::table::Ground;
 use pile::driven::Pile;
+use pile::footing::Footing;
 use pile::frictions::Frictions;
 use pile::numbers::PileNumbers;
 use std::test::Fail;
@@ -37,7 +38,7 @@ fn stands_in_one_layer(rt: HostRuntime) -> Result<(), Fail> {
     let mut ground = Ground::new(rt.alloc())?;
     ground.lay(layer(2, 10_000, 10_000))?;
     let mut frictions = Frictions::new();
-    assert!(rt; frictions.push(50_000));
+    frictions.push(50_000)?;
     let shaft = Shaft::new(&ground, &Pile::new(BORED)?, &frictions)?;
     let body = PileBody {
         tip_area: 180_000,
@@ -69,8 +70,8 @@ fn goes_up_from_the_tip(rt: HostRuntime) -> Result<(), Fail> {
     ground.lay(layer(2, 600, 10_000))?;
     ground.lay(layer(4, 10_000, 20_000))?;
     let mut frictions = Frictions::new();
-    assert!(rt; frictions.push(20_000));
-    assert!(rt; frictions.push(30_000));
+    frictions.push(20_000)?;
+    frictions.push(30_000)?;
     let shaft = Shaft::new(&ground, &Pile::new(BORED)?, &frictions)?;
     assert_eq!(rt; shaft.body().tip_soil, 4);
     let lower = Part {
@@ -101,12 +102,18 @@ fn refuses_an_overstrained_pile(rt: HostRuntime) -> Result<(), Fail> {
         ..BORED
     })?;
     let mut most = Frictions::new();
-    assert!(rt; most.push(80_000));
+    most.push(80_000)?;
     assert!(rt; Shaft::new(&ground, &pile, &most).is_ok());
     let mut too_much = Frictions::new();
-    assert!(rt; too_much.push(80_001));
+    too_much.push(80_001)?;
     assert_eq!(rt;
         Shaft::new(&ground, &pile, &too_much).err(),
+        Some(Refusal::OverstrainedPile)
+    );
+    let footing = Footing::new(&ground, &pile)?;
+    assert_eq!(rt; Shaft::on(&footing, &most)?.step(), 1_000);
+    assert_eq!(rt;
+        Shaft::on(&footing, &too_much).err(),
         Some(Refusal::OverstrainedPile)
     );
     Ok(())

@@ -1,7 +1,10 @@
 -- What a search for a tip displacement keeps, whatever it tries; and both tips from the first march that ends above.
-use Rattle.std.proofs.Common.{◌≡◌, ℕ, ◌-◌, ◌<◌, ◌≤◌, min, true, refl, ap, ◌∙◌, inl, inr, arith}
+use Rattle.std.proofs.Common.{◌≡◌, ℕ, ◌-◌, ◌<◌, ◌≤◌, min, true, ap, ◌∙◌, inl, inr, Option, Some, None, arith}
+use Rattle.std.specs.Prelude.{MatchOption}
 use native.Mathlib.Decide.{dec_le}
-use Rattle.transfer.specs.Curve.{Curve, Rest, Rising, Capped}
+use Rattle.transfer.specs.declared.Place.{Place}
+use Rattle.transfer.specs.declared.Place.TheVariants as place
+use Rattle.transfer.specs.Curve.{Curve, Transfers}
 use Rattle.column.specs.declared.Node.{Node}
 use Rattle.column.specs.Case.{Case, Sound}
 use Rattle.column.specs.Marches.{lower_end, upper_end}
@@ -9,7 +12,7 @@ use Rattle.column.specs.Tips.{IsLowerTip, IsUpperTip, no_march_above}
 use Rattle.column.proofs.Rising.{ends_rise}
 use Rattle.column.proofs.Nowhere.{none_above}
 use Rattle.shaft.specs.declared.held.Shaft.{Shaft}
-use Rattle.shaft.specs.Views.{case_over}
+use Rattle.march.specs.Curves.{case_under}
 use Rattle.march.specs.declared.Side.{Side}
 use Rattle.march.specs.declared.Side.TheVariants.{Lower, Upper}
 use Rattle.march.specs.Sides.{head_by}
@@ -27,12 +30,8 @@ rises Lower {c} ok s t h = (ends_rise c ok s t h).0
 rises Upper {c} ok s t h = (ends_rise c ok s t h).1
 
 -- a shaft under a law
-pub sound : {shaft tip : Curve} (x : Shaft) → Rest shaft → Rising shaft → Capped shaft → Rest tip → Rising tip → Capped tip → Sound (case_over shaft tip x)
-sound x sr su sc tr tu tc = record {
-  shaft = record { rest = sr; rising = su; capped = sc };
-  tip = record { rest = tr; rising = tu; capped = tc };
-  stiff = x.bodied.0;
-}
+pub sound : {curve : Place → Curve} (x : Shaft) → ((place : Place) → Transfers (curve place)) → Sound (case_under curve x)
+sound x keeps = record { shaft = keeps place.Shaft; tip = keeps place.Tip; stiff = x.bodied.0 }
 
 -- the force that a march from inside the range ends with
 pub ended : (side : Side) (c : Case) (T s : ℕ) (n : Node) → n ≡ head_by side c (min s T) → s ≤ T → n.force ≡ end_by side c s
@@ -43,23 +42,6 @@ module _ (side : Side) {c : Case} (ok : Sound c) {T F : ℕ} where
   pub none : {r : ℕ} → r ≡ end_by side c T → r ≤ F → (t : ℕ) → t ≤ T → end_by side c t ≤ F
   none e h t within = omega (arith, rises side ok t T within)
 
-  pub at_once : {r : ℕ} → r ≡ end_by side c 0 → F < r → FirstAbove side c T F 0
-  at_once e h = record { within = omega arith; above = omega arith; smallest = λ t within above. omega arith }
-
-  pub apart : {r q : ℕ} → r ≡ end_by side c T → F < r → q ≡ end_by side c 0 → q ≤ F → Apart side c T F 0 T
-  apart er hr eq hq = record {
-    order = elim (dec_le T 0) [ yes h ↦ omega (arith, rises side ok T 0 h) | no h ↦ omega arith ];
-    within = omega arith;
-    above = omega arith;
-    below = omega arith;
-  }
-
-  pub down : {r from to s : ℕ} → r ≡ end_by side c s → F < r → from < s → s < to → Apart side c T F from to → Apart side c T F from s
-  down e h low high n = record { order = low; within = omega (arith, n.within); above = omega arith; below = n.below }
-
-  pub up : {r from to s : ℕ} → r ≡ end_by side c s → r ≤ F → s < to → Apart side c T F from to → Apart side c T F s to
-  up e h high n = record { order = high; within = n.within; above = n.above; below = omega arith }
-
   pub found : {from to : ℕ} → to - from ≤ 1 → Apart side c T F from to → FirstAbove side c T F to
   found {from} {to} met n = record {
     within = n.within;
@@ -68,26 +50,23 @@ module _ (side : Side) {c : Case} (ok : Sound c) {T F : ℕ} where
   }
 
 -- the two tips
-pub as_upper : {c : Case} {T F s : ℕ} → FirstAbove Lower c T F s → IsUpperTip c T F s
-as_upper f = record { within = f.within; above = f.above; smallest = f.smallest }
+pub as_upper : (c : Case) (T F : ℕ) (r : Option ℕ) → MatchOption r ((t : ℕ) → t ≤ T → end_by Lower c t ≤ F) (λ s. FirstAbove Lower c T F s) →
+    MatchOption r (no_march_above c T F ≡ true) (λ s. IsUpperTip c T F s)
+as_upper c T F None all = none_above c T F all
+as_upper c T F (Some s) f = record { within = f.within; above = f.above; smallest = f.smallest }
 
-pub no_upper : (c : Case) (T F : ℕ) → ((t : ℕ) → t ≤ T → end_by Lower c t ≤ F) → no_march_above c T F ≡ true
-no_upper c T F h = none_above c T F h
+before_first : {c : Case} → Sound c → {T F s : ℕ} → 0 < F → FirstAbove Upper c T (F - 1) s → IsLowerTip c T F (s - 1)
+before_first {c} ok {T} {F} {s} some f = elim (dec_le s 0) [
+  | yes none ↦ inr (record { zero = omega arith; none = λ t within. omega (arith, rises Upper ok s t (omega arith), f.above) })
+  | no more ↦ inl (record {
+    within = omega (arith, f.within);
+    below = elim (dec_le F (upper_end c (s - 1))) [ yes h ↦ omega (arith, f.smallest (s - 1) (omega (arith, f.within)) (omega arith)) | no h ↦ omega arith ];
+    largest = λ t within below. elim (dec_le s t) [ yes h ↦ omega (arith, rises Upper ok s t h, f.above) | no h ↦ omega arith ];
+  })
+]
 
-pub as_lower : {c : Case} → Sound c → {T F s : ℕ} → 0 < F → 0 < s → FirstAbove Upper c T (F - 1) s → IsLowerTip c T F (s - 1)
-as_lower {c} ok {T} {F} {s} some more f = inl (record {
-  within = omega (arith, f.within);
-  below = elim (dec_le F (upper_end c (s - 1))) [ yes h ↦ omega (arith, f.smallest (s - 1) (omega (arith, f.within)) (omega arith)) | no h ↦ omega arith ];
-  largest = λ t within below. elim (dec_le s t) [ yes h ↦ omega (arith, rises Upper ok s t h, f.above) | no h ↦ omega arith ];
-})
-
-pub as_lower_zero : {c : Case} → Sound c → {T F s : ℕ} → 0 < F → s ≡ 0 → FirstAbove Upper c T (F - 1) s → IsLowerTip c T F 0
-as_lower_zero {c} ok {T} {F} {s} some z f =
-    let first : F - 1 < upper_end c s = f.above in
-    inr (record { zero = refl; none = λ t within. omega (arith, rises Upper ok s t (omega arith)) })
-
-pub as_lower_all : {c : Case} {T F s : ℕ} → 0 < F → s ≡ T → ((t : ℕ) → t ≤ T → upper_end c t ≤ F - 1) → IsLowerTip c T F s
-as_lower_all {c} {T} {F} {s} some e all = inl (record { within = omega arith; below = omega (arith, all s (omega arith)); largest = λ t within below. omega arith })
-
-pub as_lower_none : {c : Case} {T F : ℕ} → F ≡ 0 → IsLowerTip c T F 0
-as_lower_none z = inr (record { zero = refl; none = λ t within. omega arith })
+pub as_lower : {c : Case} → Sound c → {T F range s : ℕ} {Before : ℕ → Type 0} (r : Option ℕ) → 0 < F → range ≡ T →
+    MatchOption r ((t : ℕ) → t ≤ T → end_by Upper c t ≤ F - 1) (λ first. FirstAbove Upper c T (F - 1) first) →
+    MatchOption r (s ≡ range) Before → ((first : ℕ) → Before first → s ≡ first - 1) → IsLowerTip c T F s
+as_lower {c} ok {s = s} None some et all e before = inl (record { within = omega arith; below = omega (arith, all s (omega arith)); largest = λ t within below. omega arith })
+as_lower ok (Some first) some et f e before = rw (before first e) (before_first ok some f)

@@ -4,10 +4,9 @@ ghost use Rattle.std.specs.Prelude.{◌-◌, ◌<◌};
 // After so many probes the search has to be half as wide, or the middle is tried.
 const PATIENCE: u64 = 3;
 
-// On which side of the load the last march ended.
-#[derive(Clone, Copy)]
-enum Last {
-    Neither,
+// Where a march ends, seen from the load; at the load counts as below.
+#[derive(Clone, Copy, PartialEq, Eq, Debug)]
+pub(super) enum End {
     Below,
     Above,
 }
@@ -18,7 +17,7 @@ enum Last {
 pub(super) struct Probe {
     below: u64,
     above: u64,
-    last: Last,
+    last: Option<End>,
     width: u64,
     tries: u64,
 }
@@ -28,18 +27,13 @@ fn crossing(width: u64, below: u64, above: u64) -> u64
     requires { 1 < width }
     ensures { (0 < result) × (result < width) }
 {
-    let whole = below as u128 + above as u128;
+    let wide = u128::from(width);
+    let whole = u128::from(below) + u128::from(above);
     if whole == 0 {
         return width / 2;
     }
-    let gap = width as u128 * below as u128 / whole;
-    if gap < 1 {
-        1
-    } else if gap < width as u128 {
-        gap as u64
-    } else {
-        width - 1
-    }
+    let gap = wide * u128::from(below) / whole;
+    gap.clamp(1, wide - 1) as u64
 }
 
 impl Probe {
@@ -47,7 +41,7 @@ impl Probe {
         Probe {
             below,
             above,
-            last: Last::Neither,
+            last: None,
             width,
             tries: 0,
         }
@@ -71,21 +65,19 @@ impl Probe {
         from + crossing(width, self.below, self.above)
     }
 
-    // The march from the last probe ended so far above the load.
-    pub(super) fn ended_above(&mut self, by: u64) {
-        if let Last::Above = self.last {
-            self.below /= 2;
+    // The march from the last probe ended there, and so far from the load.
+    pub(super) fn ended(&mut self, end: End, by: u64) {
+        let share = if self.last == Some(end) { 2 } else { 1 };
+        match end {
+            End::Below => {
+                self.below = by;
+                self.above /= share;
+            }
+            End::Above => {
+                self.above = by;
+                self.below /= share;
+            }
         }
-        self.above = by;
-        self.last = Last::Above;
-    }
-
-    // It ended so far below it, or at it.
-    pub(super) fn ended_below(&mut self, by: u64) {
-        if let Last::Below = self.last {
-            self.above /= 2;
-        }
-        self.below = by;
-        self.last = Last::Below;
+        self.last = Some(end);
     }
 }

@@ -2,6 +2,8 @@
 -- Units: EM kPa, s nm, B mm, q and x Pa; m counts tenths of EM/B, so 10,000 is 10 tenths × 10^6 nm/mm / 10^3 Pa/kPa.
 use Rattle.std.specs.Prelude.{ℕ, ◌*◌, min, Bool, cond, ◌==◌}
 use Rattle.terms.specs.Fractions.{Fraction, ◌over◌, whole, ◌⊕◌, ◌⊗◌, floor}
+use Rattle.transfer.specs.declared.Place.{Place}
+use Rattle.transfer.specs.declared.Place.TheVariants.{Shaft, Tip}
 use Rattle.transfer.specs.Curve.{Curve}
 
 -- sand or gravel; every other soil follows soil 1
@@ -14,6 +16,10 @@ shaft_slope soil = cond (granular soil) 8 20
 
 abbrev pub tip_slope : ℕ → ℕ
 tip_slope soil = cond (granular soil) 48 110
+
+abbrev pub slope : Place → ℕ → ℕ
+slope Shaft = shaft_slope
+slope Tip = tip_slope
 
 -- x; a diameter of 0, which no pile has, makes it 0
 abbrev pub first_branch : ℕ → ℕ → ℕ → ℕ → Fraction
@@ -34,3 +40,7 @@ frank_zhao_shaft soil modulus q width s = frank_zhao (shaft_slope soil) modulus 
 
 abbrev pub frank_zhao_tip : Curve
 frank_zhao_tip soil modulus q width s = frank_zhao (tip_slope soil) modulus q width s
+
+abbrev pub frank_zhao_at : Place → Curve
+frank_zhao_at Shaft = frank_zhao_shaft
+frank_zhao_at Tip = frank_zhao_tip

@@ -3,8 +3,10 @@ use Rattle.std.specs.Prelude.{◌≡◌, ℕ, ◌*◌, ◌/◌, ◌≤◌}
 use Rattle.std.proofs.Common.{ap, ◌∙◌, mul-le-mul_left, mul-zero, arith}
 use Rattle.std.proofs.Math.Nat.{zero-div}
 use Rattle.terms.specs.Fractions.{floor}
-use Rattle.transfer.specs.Curve.{Rest, Rising, Capped}
-use Rattle.transfer.specs.FrankZhao.{shaft_slope, tip_slope, first_branch, second_branch, frank_zhao, frank_zhao_shaft, frank_zhao_tip}
+use Rattle.transfer.specs.declared.Place.{Place}
+use Rattle.transfer.specs.declared.Place.TheVariants.{Shaft, Tip}
+use Rattle.transfer.specs.Curve.{Transfers}
+use Rattle.transfer.specs.FrankZhao.{shaft_slope, tip_slope, first_branch, second_branch, frank_zhao, frank_zhao_at}
 use Rattle.transfer.specs.Quotients.{div_mono}
 
 at_rest : (m modulus q width : ℕ) → frank_zhao m modulus q width 0 ≡ 0
@@ -22,20 +24,14 @@ rises m modulus q width s t h =
     div_mono (second_branch q x).num (second_branch q y).num (second_branch q x).den (omega arith) in
     omega arith
 
-pub frank_zhao_shaft_rest : Rest frank_zhao_shaft
-frank_zhao_shaft_rest soil modulus q width = at_rest (shaft_slope soil) modulus q width
+-- whatever slope each soil has
+sloped : (m : ℕ → ℕ) → Transfers (λ soil modulus q width s. frank_zhao (m soil) modulus q width s)
+sloped m = record {
+  rest = λ soil modulus q width. at_rest (m soil) modulus q width;
+  rising = λ soil modulus q width s t h. rises (m soil) modulus q width s t h;
+  capped = λ soil modulus q width s. omega arith;
+}
 
-pub frank_zhao_shaft_rising : Rising frank_zhao_shaft
-frank_zhao_shaft_rising soil modulus q width s t h = rises (shaft_slope soil) modulus q width s t h
-
-pub frank_zhao_shaft_capped : Capped frank_zhao_shaft
-frank_zhao_shaft_capped soil modulus q width s = omega arith
-
-pub frank_zhao_tip_rest : Rest frank_zhao_tip
-frank_zhao_tip_rest soil modulus q width = at_rest (tip_slope soil) modulus q width
-
-pub frank_zhao_tip_rising : Rising frank_zhao_tip
-frank_zhao_tip_rising soil modulus q width s t h = rises (tip_slope soil) modulus q width s t h
-
-pub frank_zhao_tip_capped : Capped frank_zhao_tip
-frank_zhao_tip_capped soil modulus q width s = omega arith
+pub frank_zhao_transfers : (place : Place) → Transfers (frank_zhao_at place)
+frank_zhao_transfers Shaft = sloped shaft_slope
+frank_zhao_transfers Tip = sloped tip_slope

@@ -1,12 +1,11 @@
 // A transfer law of two hyperbolas, one for the shaft and one for the tip, which take no account of the soil.
-ghost use Rattle.std.specs.Prelude.{◌≡◌, ◌≤◌};
-ghost use Rattle.terms.specs.Limits.{Within, nearest, hyperbola_limits, unit_resistance_limits};
+ghost use Rattle.std.specs.Prelude.{◌≡◌};
+ghost use Rattle.terms.specs.Limits.{Within, hyperbola_limits};
 ghost use Rattle.terms.specs.Chains.{Answers};
-ghost use Rattle.transfer.specs.Asked.{asked};
-ghost use Rattle.transfer.specs.Hyperbola.{hyperbola, lengths_refusal};
-ghost use Rattle.transfer.specs.HyperbolaCurve.{hyperbola_rest, hyperbola_rising, hyperbola_capped};
+ghost use Rattle.transfer.specs.Hyperbola.{hyperbola, length_at, lengths_refusal};
+ghost use Rattle.transfer.specs.HyperbolaCurve.{hyperbolas_transfer};
 
-use crate::TransferLaw;
+use crate::{Place, SoilContact, TransferLaw};
 use terms::limits::{DISPLACEMENT, HYPERBOLA_LENGTH, UNIT_RESISTANCE};
 use terms::refusal::Refusal;
 
@@ -24,90 +23,85 @@ impl Hyperbola {
     pub fn new(shaft_length: u64, tip_length: u64) -> Result<Hyperbola, Refusal>
         ensures { Answers (lengths_refusal shaft_length tip_length) (λ law. (law.shaft_length ≡ shaft_length) × (law.tip_length ≡ tip_length)) result }
     {
-        if HYPERBOLA_LENGTH.excludes(shaft_length) {
-            return Err(Refusal::ShaftLength);
-        }
-        if HYPERBOLA_LENGTH.excludes(tip_length) {
-            return Err(Refusal::TipLength);
-        }
+        HYPERBOLA_LENGTH.admit(shaft_length, Refusal::ShaftLength)?;
+        HYPERBOLA_LENGTH.admit(tip_length, Refusal::TipLength)?;
         Ok(Hyperbola {
             shaft_length,
             tip_length,
         })
     }
-}
 
-// No curve of this law looks at soil, modulus or width.
-fn mobilised(curve_length: u64, resistance: u64, displacement: u64) -> u64
-    requires { Within hyperbola_limits curve_length }
-    ensures value { result ≡ asked (hyperbola curve_length) 0 0 resistance 0 displacement }
-    ensures capped { result ≤ nearest unit_resistance_limits resistance }
-{
-    let resistance = UNIT_RESISTANCE.take_nearest(resistance);
-    let displacement = DISPLACEMENT.take_nearest(displacement);
-    resistance * displacement / (curve_length + displacement)
+    fn curve_length(&self, place: Place) -> u64
+        ensures value { result ≡ length_at place self.now.shaft_length self.now.tip_length }
+        ensures within { Within hyperbola_limits result }
+    {
+        match place {
+            Place::Shaft => self.shaft_length,
+            Place::Tip => self.tip_length,
+        }
+    }
 }
 
 impl TransferLaw for Hyperbola {
-    ghost shaft_curve = { λ law. hyperbola law.shaft_length };
+    ghost curve = { λ law place. hyperbola (length_at place law.shaft_length law.tip_length) };
 
-    ghost tip_curve = { λ law. hyperbola law.tip_length };
+    ghost keeps = { λ law. hyperbolas_transfer law.shaft_length law.tip_length law.shaft_within.0 law.tip_within.0 };
 
-    ghost shaft_rest = { λ law. hyperbola_rest law.shaft_length };
-
-    ghost shaft_rising = { λ law. hyperbola_rising law.shaft_length law.shaft_within.0 };
-
-    ghost shaft_capped = { λ law. hyperbola_capped law.shaft_length law.shaft_within.0 };
-
-    ghost tip_rest = { λ law. hyperbola_rest law.tip_length };
-
-    ghost tip_rising = { λ law. hyperbola_rising law.tip_length law.tip_within.0 };
-
-    ghost tip_capped = { λ law. hyperbola_capped law.tip_length law.tip_within.0 };
-
-    fn shaft(
-        &self,
-        _soil: u64,
-        _modulus: u64,
-        resistance: u64,
-        _width: u64,
-        displacement: u64,
-    ) -> u64 {
-        mobilised(self.shaft_length, resistance, displacement)
-    }
-
-    fn tip(
-        &self,
-        _soil: u64,
-        _modulus: u64,
-        resistance: u64,
-        _width: u64,
-        displacement: u64,
-    ) -> u64 {
-        mobilised(self.tip_length, resistance, displacement)
+    // No curve of this law looks at soil, modulus or width.
+    fn mobilised(&self, place: Place, contact: SoilContact, displacement: u64) -> u64 {
+        let curve_length = self.curve_length(place);
+        let resistance = UNIT_RESISTANCE.take_nearest(contact.resistance);
+        let displacement = DISPLACEMENT.take_nearest(displacement);
+        resistance * displacement / (curve_length + displacement)
     }
 }
 
 #[cfg(test)]
 mod tests {
-    use super::{Hyperbola, TransferLaw};
+    use super::{Hyperbola, Place, SoilContact, TransferLaw};
     use std::test::Fail;
     use terms::refusal::{Part, Refusal};
+
+    const CONTACT: SoilContact = SoilContact {
+        soil: 1,
+        modulus: 10_000,
+        resistance: 50_000,
+        width: 500,
+    };
 
     #[test]
     fn has_a_length_for_each_curve(rt: HostRuntime) -> Result<(), Fail> {
         let law = Hyperbola::new(1_000_000, 250_000)?;
-        assert_eq!(rt; law.shaft(1, 10_000, 50_000, 500, 0), 0);
-        assert_eq!(rt; law.shaft(1, 10_000, 50_000, 500, 3_000_000), 37_500);
-        assert_eq!(rt; law.tip(1, 10_000, 50_000, 500, 1_000_000), 40_000);
+        assert_eq!(rt; law.mobilised(Place::Shaft, CONTACT, 0), 0);
+        assert_eq!(rt; law.mobilised(Place::Shaft, CONTACT, 3_000_000), 37_500);
+        assert_eq!(rt; law.mobilised(Place::Tip, CONTACT, 1_000_000), 40_000);
         Ok(())
     }
 
     #[test]
     fn takes_the_nearest_inside(rt: HostRuntime) -> Result<(), Fail> {
         let law = Hyperbola::new(1, 1_000_000_000)?;
-        assert_eq!(rt; law.shaft(0, 0, 50_000_000, 0, 3_000_000_000), 39_999_999);
-        assert_eq!(rt; law.tip(9, 10_000, 50_000, 500, 3_000_000_000), 33_333);
+        assert_eq!(rt;
+            law.mobilised(
+                Place::Shaft,
+                SoilContact {
+                    soil: 0,
+                    modulus: 0,
+                    resistance: 50_000_000,
+                    width: 0
+                },
+                3_000_000_000
+            ),
+            39_999_999
+        );
+        assert_eq!(rt;
+            law.mobilised(
+                Place::Tip,
+                SoilContact { soil: 9, ..CONTACT },
+                3_000_000_000
+            ),
+            33_333
+        );
         Ok(())
     }
 

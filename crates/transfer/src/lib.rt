@@ -3,36 +3,42 @@
 
 ghost use Rattle.std.specs.Prelude.{◌≡◌, ◌≤◌};
 ghost use Rattle.terms.specs.Limits.{nearest, unit_resistance_limits};
-ghost use Rattle.transfer.specs.Curve.{Curve, Rest, Rising, Capped};
+ghost use Rattle.transfer.specs.Curve.{Curve, Transfers};
 ghost use Rattle.transfer.specs.Asked.{asked};
 
 pub mod frank_zhao;
 pub mod hyperbola;
 
-// A law is two curves, defined for every displacement. It never refuses: a number outside its limits is taken as the
-// nearest inside. Ménard modulus kPa, unit resistance Pa, width (the pile's diameter) mm, displacement nm; result Pa.
+// Where soil and pile meet.
+#[derive(Clone, Copy, PartialEq, Eq, Debug)]
+pub enum Place {
+    Shaft,
+    Tip,
+}
+
+// What meets there. Any numbers are allowed.
+#[derive(Clone, Copy, PartialEq, Eq, Debug)]
+pub struct SoilContact {
+    pub soil: u64,
+    // Ménard modulus, kPa
+    pub modulus: u64,
+    // Unit resistance, Pa
+    pub resistance: u64,
+    // The pile's diameter, mm
+    pub width: u64,
+}
+
+// A law is a curve for each place, defined for every displacement. It never refuses: a number outside its limits is taken as the nearest
+// inside.
 pub trait TransferLaw {
-    ghost shaft_curve: { Self → Curve };
+    ghost use Rattle.transfer.specs.declared.Place.{Place};
 
-    ghost tip_curve: { Self → Curve };
+    ghost curve: { Self → Place → Curve };
 
-    fn shaft(&self, soil: u64, modulus: u64, resistance: u64, width: u64, displacement: u64) -> u64
-        ensures value { result ≡ asked (shaft_curve self.now) soil modulus resistance width displacement }
-        ensures capped { result ≤ nearest unit_resistance_limits resistance };
+    // The resistance at a displacement in nm, in Pa.
+    fn mobilised(&self, place: Place, contact: SoilContact, displacement: u64) -> u64
+        ensures value { result ≡ asked (curve self.now place) contact.soil contact.modulus contact.resistance contact.width displacement }
+        ensures capped { result ≤ nearest unit_resistance_limits contact.resistance };
 
-    fn tip(&self, soil: u64, modulus: u64, resistance: u64, width: u64, displacement: u64) -> u64
-        ensures value { result ≡ asked (tip_curve self.now) soil modulus resistance width displacement }
-        ensures capped { result ≤ nearest unit_resistance_limits resistance };
-
-    ghost shaft_rest: { (law : Self) → Rest (shaft_curve law) };
-
-    ghost shaft_rising: { (law : Self) → Rising (shaft_curve law) };
-
-    ghost shaft_capped: { (law : Self) → Capped (shaft_curve law) };
-
-    ghost tip_rest: { (law : Self) → Rest (tip_curve law) };
-
-    ghost tip_rising: { (law : Self) → Rising (tip_curve law) };
-
-    ghost tip_capped: { (law : Self) → Capped (tip_curve law) };
+    ghost keeps: { (law : Self) (place : Place) → Transfers (curve law place) };
 }

@@ -2,11 +2,10 @@
 use Rattle.std.proofs.Common.{◌≡◌, ℕ, suc, ◌<◌, ◌⊎◌, List, [], ◌∷◌, ◌++◌, length, get_or, sym, refl, ap, ◌∙◌, subst, inl, inr, append_assoc, arith, length-append}
 use Rattle.std.proofs.lemmas.List.{nil_from_length}
 use Rattle.friction.specs.Rule.{Agrees}
-use Rattle.study.specs.declared.holder.Study.{Study}
-use Rattle.study.specs.Rules.{Meaning}
-use Rattle.study.specs.Views.{rule_of}
+use Rattle.friction.specs.declared.rule.FrictionRule.{Ghosts}
 use Rattle.worksheet.specs.Cutting.{Cut}
 use Rattle.worksheet.specs.Pieces.{WholeLines, PiecesJoin}
+use Rattle.worksheet.specs.Sheets.{means}
 use Rattle.worksheet.proofs.Steps.{works_join}
 
 -- what ends with a line feed has one at the end of each part that is not empty
@@ -48,10 +47,10 @@ cut_join a b (x ∷ xs) ys w (rest, l, c) k = by_cut l.cut (λ v. cut_join rest 
     )
     by_cut (inr e) go = absurd (not_whole x (omega (arith, l.some, ap length e.0)) l.solid (subst (λ (t : List ℕ). WholeLines t) e.0 w))
 
-module _ {R L : Type 0} (meaning : Study R L → Meaning) (agrees : (s : Study R L) (soil category p : ℕ) → Agrees (meaning s).tolerance ((meaning s).fraction soil category p) ((meaning s).answer soil category p)) where
-  pub pieces_join : ((s u : Study R L) → rule_of u ≡ rule_of s → meaning u ≡ meaning s) → PiecesJoin meaning
-  pieces_join same s u t a b old mid new w p q = record {
+module _ {R L : Type 0} (rule : Ghosts R) (within : (r : R) (soil category p : ℕ) → Agrees rule.tolerance (rule.fraction r soil category p) (rule.answer r soil category p)) where
+  pub pieces_join : PiecesJoin {R = R} {L = L} (means rule)
+  pieces_join s u t a b old mid new w p q = record {
     lines = p.lines ++ q.lines;
     cut = cut_join a b p.lines q.lines w p.cut q.cut;
-    works = works_join meaning agrees s u t p.lines q.lines old mid new (same s u p.works.tale.kept.0) p.works q.works;
+    works = works_join rule within p.works q.works;
   }

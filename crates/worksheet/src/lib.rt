@@ -1,12 +1,12 @@
 // A worksheet: lines told to a study one after the other, and their answers as lines.
 #![tactic(auto)]
 
-ghost use Rattle.std.specs.Prelude.{◌≡◌, ◌+◌, ◌*◌, ◌<◌, ◌≤◌, true, [], ◌∷◌, length, is_ok, vec_len, vec_capacity, MatchResult};
+ghost use Rattle.std.specs.Prelude.{◌≡◌, ◌+◌, ◌*◌, ◌<◌, ◌≤◌, true, [], ◌∷◌, length, is_ok, vec_len, vec_capacity, MatchOption, MatchResult};
+ghost use Rattle.std.specs.Iterator.{at_most};
 ghost use Rattle.lines.specs.Print.{longest_answer};
-ghost use Rattle.study.specs.Views.{meaning};
 ghost use Rattle.worksheet.specs.Cutting.{Line};
 ghost use Rattle.worksheet.specs.Pieces.{PiecesJoin};
-ghost use Rattle.worksheet.specs.Sheets.{AnswersLine, Works, Sheet, Halted};
+ghost use Rattle.worksheet.specs.Sheets.{means, AnswersLine, Works, Sheet, Halted};
 
 use calls::Answer;
 use friction::rule::FrictionRule;
@@ -24,20 +24,36 @@ fn split_line(text: &[u8]) -> (&[u8], &[u8])
     ensures line { Line text.now result.0.now result.1.now }
     ensures less { length result.1.now < length text.now }
 {
-    let mut n = 0;
-    while n < text.len() && text[n] != b'\n' {
-        n += 1;
+    match text.iter().position(|b| *b == b'\n') {
+        Some(n) => (&text[..n], &text[n + 1..]),
+        None => (text, &[]),
     }
-    if n < text.len() {
-        (&text[0..n], &text[n + 1..])
-    } else {
-        (text, &text[n..])
+}
+
+// The lines of a text from the first on, each without its line feed.
+#[derive(Drop)]
+struct Lines<'a>(&'a [u8]);
+
+impl<'a> Iterator for Lines<'a> {
+    type Item = &'a [u8];
+
+    ghost next_gives = { λ s r t. MatchOption r ((length s.0.now ≡ 0) × (t ≡ s)) (λ line. Line s.0.now line.now t.0.now) };
+
+    ghost remaining = { λ s. at_most (length s.0.now) };
+
+    fn next(&mut self) -> Option<&'a [u8]> {
+        if self.0.is_empty() {
+            return None;
+        }
+        let (line, rest) = split_line(self.0);
+        self.0 = rest;
+        Some(line)
     }
 }
 
 // What the study answers to a line.
 fn reply<R: FrictionRule, L: TransferLaw>(study: &mut Study<R, L>, line: &[u8]) -> Answer
-    ensures { AnswersLine (meaning R.FrictionRule.tolerance R.FrictionRule.fraction R.FrictionRule.answer) study.old line.now result study.new }
+    ensures { AnswersLine (means R.FrictionRule) study.old line.now result study.new }
 {
     match parse_line(line) {
         Ok(call) => perform(study, &call),
@@ -51,14 +67,12 @@ pub fn work_line<R: FrictionRule, L: TransferLaw>(
     line: &[u8],
     out: &mut Vec<u8>,
 ) -> Result<(), AllocError>
-    ensures cases { MatchResult result (λ _. Works (meaning R.FrictionRule.tolerance R.FrictionRule.fraction R.FrictionRule.answer) study.old study.new (line.now ∷ []) out.old.items out.new.items) (λ _. (study.new ≡ study.old) × (out.new.items ≡ out.old.items)) }
+    ensures cases { MatchResult result (λ _. Works (means R.FrictionRule) study.old study.new (line.now ∷ []) out.old.items out.new.items) (λ _. (study.new ≡ study.old) × (out.new.items ≡ out.old.items)) }
     ensures len { vec_len out.new ≤ vec_len out.old + longest_answer }
     ensures capacity { vec_capacity out.old ≤ vec_capacity out.new }
     ensures succeeds { vec_len out.old + longest_answer ≤ vec_capacity out.old → is_ok result ≡ true }
 {
-    if let Err(error) = out.reserve(LONGEST_ANSWER) {
-        return Err(error);
-    }
+    out.reserve(LONGEST_ANSWER)?;
     let answer = reply(study, line);
     write_answer(letter_of(line), &answer, out)
 }
@@ -69,23 +83,18 @@ pub fn work_sheet<R: FrictionRule, L: TransferLaw>(
     text: &[u8],
     out: &mut Vec<u8>,
 ) -> Result<(), AllocError>
-    ensures cases { MatchResult result (λ _. Sheet (meaning R.FrictionRule.tolerance R.FrictionRule.fraction R.FrictionRule.answer) study.old study.new text.now out.old.items out.new.items) (λ _. Halted (meaning R.FrictionRule.tolerance R.FrictionRule.fraction R.FrictionRule.answer) study.old study.new text.now out.old.items out.new.items) }
+    ensures cases { MatchResult result (λ _. Sheet (means R.FrictionRule) study.old study.new text.now out.old.items out.new.items) (λ _. Halted (means R.FrictionRule) study.old study.new text.now out.old.items out.new.items) }
     ensures succeeds { vec_len out.old + longest_answer * length text.now ≤ vec_capacity out.old → is_ok result ≡ true }
 {
-    let mut rest = text;
-    while rest.len() > 0 {
-        let (line, after) = split_line(rest);
-        if let Err(error) = work_line(study, line, out) {
-            return Err(error);
-        }
-        rest = after;
+    for line in Lines(text) {
+        work_line(study, line, out)?;
     }
     Ok(())
 }
 
 // That a sheet may be worked in pieces of whole lines, as they come.
 pub fn pieces_join<R: FrictionRule, L: TransferLaw>(_study: &Study<R, L>)
-    ensures { PiecesJoin {R = R} {L = L} (meaning R.FrictionRule.tolerance R.FrictionRule.fraction R.FrictionRule.answer) }
+    ensures { PiecesJoin {R = R} {L = L} (means R.FrictionRule) }
 {}
 
 #[cfg(test)]

@@ -1,9 +1,9 @@
-use Rattle.std.proofs.Common.{[], drop}
-use Rattle.column.specs.Case.{case_of}
+use Rattle.std.proofs.Common.{drop}
+use Rattle.march.specs.Curves.{bare}
 use Rattle.march.proofs.Going.{Going}
 use Rattle.march.proofs.march.Given as goal
 
 abbrev pub invariant-loop-part : goal.invariant-loop-part
 invariant-loop-part g l =
-    let t = g.L.TransferLaw in
-    Going (case_of (t.shaft_curve l.law) (t.tip_curve l.law) l.body []) l.side l.step l.start l.part-items (drop l.part-index l.part-items) l.node
+    let climb = l.climb in
+    Going (bare (g.L.TransferLaw.curve climb.law.now) climb.body.now) climb.side climb.step l.start l.part-items (drop l.part-index l.part-items) l.node

@@ -12,10 +12,8 @@ impl Pile {
     pub fn new(numbers: PileNumbers) -> Result<Pile, Refusal>
         ensures { Answers (pile_flaw numbers) (λ p. numbers_of p ≡ numbers) result }
     {
-        match numbers.flaw() {
-            Some(refusal) => Err(refusal),
-            None => Ok(Pile { numbers }),
-        }
+        numbers.check()?;
+        Ok(Pile { numbers })
     }
 
     pub fn numbers(&self) -> PileNumbers

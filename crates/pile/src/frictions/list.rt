@@ -4,29 +4,31 @@ ghost use Rattle.terms.specs.Limits.{max_layers};
 ghost use Rattle.pile.specs.Frictions.{all_moderate};
 ghost use Rattle.pile.specs.FrictionList.{friction_list, Pushes};
 
-use crate::frictions::Frictions;
-use terms::limits::{FRICTION, MAX_LAYERS};
+use crate::frictions::{Frictions, Unfit};
+use arrayvec::ArrayVec;
+use std::alloc::AllocError;
+use terms::limits::FRICTION;
 
 impl Frictions {
     pub fn new() -> Frictions
         ensures { friction_list result ≡ [] }
     {
-        Frictions {
-            values: [0; MAX_LAYERS],
-            count: 0,
-        }
+        let values = ArrayVec::new();
+        Frictions { values }
     }
 
-    // One more; false, and nothing changed, where the list is full or the friction above the greatest.
-    pub fn push(&mut self, friction: u64) -> bool
+    // One more; where it has no place, nothing is changed.
+    pub fn push(&mut self, friction: u64) -> Result<(), Unfit>
         ensures { Pushes self.old friction result self.new }
     {
-        if self.count >= MAX_LAYERS || FRICTION.excludes(friction) {
-            return false;
+        if self.values.is_full() {
+            return Err(Unfit::Full);
         }
-        self.values[self.count] = friction;
-        self.count += 1;
-        true
+        if FRICTION.excludes(friction) {
+            return Err(Unfit::TooGreat);
+        }
+        self.values.push(friction);
+        Ok(())
     }
 
     pub fn values(&self) -> &[u64]
@@ -34,6 +36,17 @@ impl Frictions {
         ensures few { length result.now ≤ max_layers }
         ensures moderate { all_moderate result.now ≡ true }
     {
-        &self.values[..self.count]
+        self.values.as_slice()
+    }
+}
+
+impl Clone for Frictions {
+    ghost is_clone = { λ f g. friction_list g ≡ friction_list f };
+
+    ghost is_infallible = { λ _. Unit {0} };
+
+    fn clone(&self) -> Result<Frictions, AllocError> {
+        let values = self.values.clone()?;
+        Ok(Frictions { values })
     }
 }

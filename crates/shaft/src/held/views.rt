@@ -29,7 +29,7 @@ impl Shaft {
     pub fn parts(&self) -> &[Part]
         ensures { result.now ≡ parts_of self.now }
     {
-        &self.parts[..self.count]
+        self.parts.as_slice()
     }
 
     // T, the furthest displacement of the tip, nm.

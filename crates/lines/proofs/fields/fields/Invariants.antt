@@ -3,4 +3,4 @@ use Rattle.lines.proofs.Onward.{Onward}
 use Rattle.lines.proofs.fields.fields.Given as goal
 
 abbrev pub invariant-loop-i : goal.invariant-loop-i
-invariant-loop-i g l = (length l.numbers ≡ g.row.N) × Onward l.text l.numbers l.rest l.i l.place
+invariant-loop-i g l = record { long : length l.number-items ≡ g.row.N; read : Onward l.text l.number-items l.rest l.i }

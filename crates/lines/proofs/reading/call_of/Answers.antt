@@ -8,9 +8,6 @@ returns-in_ok-soil-in-Lay c = (sym c.in-Lay.is, listed c.in_ok-soil-in-Lay.ensur
 pub returns-in_ok-index-in-Amend : goal.returns-in_ok-index-in-Amend
 returns-in_ok-index-in-Amend c = (sym c.in-Amend.is, listed c.in_ok-index-in-Amend.ensures)
 
-pub returns-in_ok-fields-in-Lift : goal.returns-in_ok-fields-in-Lift
-returns-in_ok-fields-in-Lift c = (sym c.in-Lift.is, listed c.in_ok-fields-in-Lift.ensures)
-
 pub returns-in_ok-category-in-Drive : goal.returns-in_ok-category-in-Drive
 returns-in_ok-category-in-Drive c = (sym c.in-Drive.is, listed c.in_ok-category-in-Drive.ensures)
 

@@ -1,51 +1,32 @@
-use Rattle.std.proofs.Common.{◌≡◌, ◌+◌, ◌-◌, ◌<◌, length, arith}
-use Rattle.pile.specs.Shaft.{parts_above, shaft_resistance}
-use Rattle.pile.proofs.Bounds.{moderate_at}
-use Rattle.pile.proofs.Shafts.{shaft_again, shaft_end, part_size, shaft_size}
+use Rattle.std.proofs.Common.{◌≡◌, ◌∷◌, true, sym, ap, ◌∙◌, arith}
+use Rattle.std.proofs.lemmas.Bool.{and_parts}
+use Rattle.std.proofs.lemmas.Slice.Zip.{Zip-more, either_empty_from_Zip}
+use Rattle.std.specs.Iterator.Adapters.{zip_second}
+use Rattle.std.specs.Slice.Iter.{iter_rest}
+use Rattle.pile.specs.Frictions.{all_moderate}
+use Rattle.pile.proofs.Shafts.{shaft_turn, shaft_end, part_size, shaft_size}
 use Rattle.pile.proofs.resistance.along_shaft.Goals as goal
-
-pub overflow_mul-sum-in-loop-i : goal.overflow_mul-sum-in-loop-i
-overflow_mul-sum-in-loop-i c =
-    let qs = c.args.frictions.now in
-    let moderate = moderate_at qs c.loop-i.i 0 (omega (arith, c.min-i-end.ensures, c.loop-i-test.true)) c.requires.2 in
-    let h = c.min-height.result in
-    let left = c.loop-i.left in
-    let split : left ≡ h + (left - h) = omega (arith, c.min-height.ensures) in
-    let part = part_size c.args.perimeter h _ left (left - h) c.loop-i.sum _ moderate split c.loop-i.invariant.2 in
-    omega (arith, part, shaft_size c.args.perimeter c.args.length c.requires.0 c.requires.1)
 
 pub overflow_add-sum : goal.overflow_add-sum
 overflow_add-sum c =
-    let qs = c.args.frictions.now in
-    let moderate = moderate_at qs c.loop-i.i 0 (omega (arith, c.min-i-end.ensures, c.loop-i-test.true)) c.requires.2 in
-    let h = c.min-height.result in
-    let left = c.loop-i.left in
-    let split : left ≡ h + (left - h) = omega (arith, c.min-height.ensures) in
-    let part = part_size c.args.perimeter h _ left (left - h) c.loop-i.sum _ moderate split c.loop-i.invariant.2 in
+    let inv = c.loop-layer.invariant in
+    let turn = Zip-more c.loop-layer.layer-iterator c.next.new.self c.next.result _ c.in-Some.is c.next.ensures.steps in
+    let part = part_size c.args.perimeter c.min-height.result c.in-Some.friction.now c.loop-layer.left c.loop-layer.sum _ (iter_rest (zip_second c.next.new.self)) (sym (ap all_moderate turn.1) ∙ inv.3) (omega (arith, c.min-height.ensures)) inv.2 in
     omega (arith, part, shaft_size c.args.perimeter c.args.length c.requires.0 c.requires.1)
 
-pub loop-i-preserved : goal.loop-i-preserved
-loop-i-preserved c =
-    let P = c.args.perimeter in
-    let ls = c.args.layers.now in
-    let qs = c.args.frictions.now in
-    let i = c.loop-i.i in
-    let in-layers : i < length ls = omega (arith, c.min-i-end.ensures, c.loop-i-test.true) in
-    let in-frictions : i < length qs = omega (arith, c.min-i-end.ensures, c.loop-i-test.true) in
-    let h = c.min-height.result in
-    let left = c.loop-i.left in
-    let inv = c.loop-i.invariant in
-    let split : left ≡ h + (left - h) = omega (arith, c.min-height.ensures) in (
+pub loop-layer-preserved : goal.loop-layer-preserved
+loop-layer-preserved c =
+    let inv = c.loop-layer.invariant in
+    let q = c.in-Some.friction.now in
+    let turn = Zip-more c.loop-layer.layer-iterator c.next.new.self c.next.result _ c.in-Some.is c.next.ensures.steps in
+    let moderate : all_moderate (q ∷ iter_rest (zip_second c.next.new.self)) ≡ true = sym (ap all_moderate turn.1) ∙ inv.3 in (
       omega (arith, inv.0),
-      shaft_again P left c.loop-i.sum (shaft_resistance P (parts_above c.args.length ls) qs) h ls qs i in-layers in-frictions c.min-height.ensures inv.1,
-      part_size P h _ left (left - h) c.loop-i.sum _ (moderate_at qs i 0 in-frictions c.requires.2) split inv.2,
+      shaft_turn c.args.perimeter c.loop-layer.left c.loop-layer.sum _ c.min-height.result c.in-Some.layer.now q _ _ _ _ turn.0 turn.1 c.min-height.ensures inv.1,
+      part_size c.args.perimeter c.min-height.result q c.loop-layer.left c.loop-layer.sum _ (iter_rest (zip_second c.next.new.self)) moderate (omega (arith, c.min-height.ensures)) inv.2,
+      (and_parts _ _ moderate).1,
     )
 
-pub returns : goal.returns
-returns c =
-    let P = c.args.perimeter in
-    let end = shaft_end P c.loop-i.left c.args.layers.now c.args.frictions.now c.loop-i.i (omega (arith, c.min-i-end.ensures, c.loop-i-test.false)) in
-    record {
-      value = omega (arith, end, c.loop-i.invariant.1);
-      small = omega (arith, shaft_size P c.args.length c.requires.0 c.requires.1, c.loop-i.invariant.2);
-    }
+pub returns-clause-value : goal.returns-clause-value
+returns-clause-value c =
+    let last = either_empty_from_Zip c.loop-layer.layer-iterator c.next.new.self c.next.result c.in-None.is c.next.ensures.steps in
+    omega (arith, shaft_end c.args.perimeter c.loop-layer.left _ _ last, c.loop-layer.invariant.1)

@@ -7,12 +7,6 @@ use Rattle.pile.proofs.tip.pressure_between.Goals as goal
 pub returns-then-to-from : goal.returns-then-to-from
 returns-then-to-from c = sym (integral_empty (strata c.args.ground.now) c.args.from c.args.to (omega arith))
 
-pub loop-layer-init : goal.loop-layer-init
-loop-layer-init c = (omega arith, omega arith, omega arith)
-
-pub overflow_sub-sum : goal.overflow_sub-sum
-overflow_sub-sum c = omega (arith, c.min.ensures, c.min-in-loop-layer.ensures, c.loop-layer.invariant.0)
-
 pub overflow_mul-sum : goal.overflow_mul-sum
 overflow_mul-sum c =
     let xs = c.layers-layer-items.result.now in

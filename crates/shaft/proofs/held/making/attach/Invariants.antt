@@ -1,10 +1,13 @@
-use Rattle.std.proofs.Common.{◌≡◌, ◌++◌, length, take, drop}
+use Rattle.std.proofs.Common.{◌≡◌, ◌+◌, ◌≤◌, ◌++◌, length}
+use Rattle.std.specs.Iterator.Adapters.{zip_first, zip_second}
+use Rattle.std.specs.Slice.Iter.{iter_rest}
+use Rattle.terms.specs.Limits.{max_layers}
 use Rattle.pile.specs.Shaft.{parts_above}
 use Rattle.shaft.specs.Attached.{attached}
 use Rattle.shaft.proofs.held.making.attach.Given as goal
 
 -- what is attached and what is to come are the whole
-abbrev pub invariant-loop-i : goal.invariant-loop-i
-invariant-loop-i l =
-    (length l.parts ≡ length l.initial.parts)
-    × (take l.i l.parts ++ attached (parts_above l.left (drop l.i l.layers)) (drop l.i l.frictions) ≡ attached (parts_above l.tip l.layers) l.frictions)
+abbrev pub invariant-loop-layer : goal.invariant-loop-layer
+invariant-loop-layer l =
+    (length l.parts.items + length (iter_rest (zip_first l.layer-iterator)) ≤ max_layers)
+    × (l.parts.items ++ attached (parts_above l.left (iter_rest (zip_first l.layer-iterator))) (iter_rest (zip_second l.layer-iterator)) ≡ attached (parts_above l.tip l.layers) l.frictions)
