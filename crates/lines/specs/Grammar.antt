@@ -15,14 +15,14 @@ longest_line = 120
 
 abbrev pub letter_of : Call → Letter
 letter_of (Lay layer) = letter_l
-letter_of (Amend index pressure modulus) = letter_a
+letter_of (Amend amendment) = letter_a
 letter_of Lift = letter_u
 letter_of (Drive pile) = letter_p
 letter_of (Judge question) = letter_j
 
 abbrev pub numbers_of : Call → List ℕ
 numbers_of (Lay l) = l.soil ∷ l.thickness ∷ l.pressure ∷ l.modulus ∷ l.ceiling ∷ []
-numbers_of (Amend index pressure modulus) = index ∷ pressure ∷ modulus ∷ []
+numbers_of (Amend a) = a.index ∷ a.pressure ∷ a.modulus ∷ []
 numbers_of Lift = []
 numbers_of (Drive p) =
     p.category ∷ p.mark ∷ p.diameter ∷ p.perimeter ∷ p.tip_area ∷ p.section ∷ p.modulus ∷ p.length ∷ p.tip_factor ∷ p.step ∷ []

@@ -8,7 +8,7 @@ ghost use Rattle.lines.specs.Meaning.{OneMeaning};
 use crate::fields::fields;
 use crate::letter::Letter;
 use calls::{Call, Question};
-use ground::layer::Layer;
+use ground::layer::{Amendment, Layer};
 use pile::numbers::PileNumbers;
 use terms::refusal::Refusal;
 
@@ -20,62 +20,14 @@ fn call_of(letter: Letter, text: &[u8]) -> Result<Call, Refusal>
     ensures { MatchResult result (λ call. (letter_of call ≡ letter) × Fields text.now (numbers_of call)) (λ e. Malformed text.now (arity letter) 1 e) }
 {
     match letter {
-        Letter::Lay => {
-            let [soil, thickness, pressure, modulus, ceiling] = fields::<5>(text)?;
-            Ok(Call::Lay(Layer {
-                soil,
-                thickness,
-                pressure,
-                modulus,
-                ceiling,
-            }))
-        }
-        Letter::Amend => {
-            let [index, pressure, modulus] = fields::<3>(text)?;
-            Ok(Call::Amend {
-                index,
-                pressure,
-                modulus,
-            })
-        }
+        Letter::Lay => Ok(Call::Lay(Layer::from(fields(text)?))),
+        Letter::Amend => Ok(Call::Amend(Amendment::from(fields(text)?))),
         Letter::Lift => {
             fields::<0>(text)?;
             Ok(Call::Lift)
         }
-        Letter::Drive => {
-            let [
-                category,
-                mark,
-                diameter,
-                perimeter,
-                tip_area,
-                section,
-                modulus,
-                length,
-                tip_factor,
-                step,
-            ] = fields::<10>(text)?;
-            Ok(Call::Drive(PileNumbers {
-                category,
-                mark,
-                diameter,
-                perimeter,
-                tip_area,
-                section,
-                modulus,
-                length,
-                tip_factor,
-                step,
-            }))
-        }
-        Letter::Judge => {
-            let [load, model_factor, resistance_factor] = fields::<3>(text)?;
-            Ok(Call::Judge(Question {
-                load,
-                model_factor,
-                resistance_factor,
-            }))
-        }
+        Letter::Drive => Ok(Call::Drive(PileNumbers::from(fields(text)?))),
+        Letter::Judge => Ok(Call::Judge(Question::from(fields(text)?))),
     }
 }
 
@@ -116,11 +68,11 @@ mod tests {
             ceiling: 50,
         };
         says(&rt, b"L 1 2000 300 4000 50", Call::Lay(layer));
-        let amend = Call::Amend {
+        let amend = Call::Amend(Amendment {
             index: 0,
             pressure: 9_999_999_999,
             modulus: 7,
-        };
+        });
         says(&rt, b"A 0 9999999999 0000000007", amend);
         says(&rt, b"U", Call::Lift);
     }

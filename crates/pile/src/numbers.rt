@@ -1,5 +1,5 @@
 // The numbers of a pile, as the designer gives them.
-ghost use Rattle.std.specs.Prelude.{◌≡◌};
+ghost use Rattle.std.specs.Prelude.{◌≡◌, [], ◌∷◌};
 ghost use Rattle.terms.specs.Chains.{unless};
 ghost use Rattle.pile.specs.Numbers.{pile_flaw, shape_flaw, stiffness_flaw, vibrodriven};
 
@@ -36,6 +36,38 @@ pub struct PileNumbers {
 
 // The mark of a vibrodriven pile.
 const VIBRODRIVEN: u64 = 1;
+
+// In the order of the fields.
+impl From<[u64; 10]> for PileNumbers {
+    ghost from_gives = { λ numbers pile. numbers ≡ pile.category ∷ pile.mark ∷ pile.diameter ∷ pile.perimeter ∷ pile.tip_area ∷ pile.section ∷ pile.modulus ∷ pile.length ∷ pile.tip_factor ∷ pile.step ∷ [] };
+
+    fn from(numbers: [u64; 10]) -> PileNumbers {
+        let [
+            category,
+            mark,
+            diameter,
+            perimeter,
+            tip_area,
+            section,
+            modulus,
+            length,
+            tip_factor,
+            step,
+        ] = numbers;
+        PileNumbers {
+            category,
+            mark,
+            diameter,
+            perimeter,
+            tip_area,
+            section,
+            modulus,
+            length,
+            tip_factor,
+            step,
+        }
+    }
+}
 
 impl PileNumbers {
     pub fn is_vibrodriven(&self) -> bool

@@ -62,6 +62,14 @@ fn bored(length: u64) -> PileNumbers {
 }
 
 #[test]
+fn numbers_in_the_order_of_the_fields(rt: HostRuntime) {
+    let numbers = [
+        20, 0, 3_000, 10_000, 8_000_000, 8_000_000, 210_000, 25_000, 400, 1_000,
+    ];
+    assert_eq!(rt; PileNumbers::from(numbers), MOST);
+}
+
+#[test]
 fn takes_the_limits(rt: HostRuntime) {
     assert_eq!(rt; LEAST.check(), Ok(()));
     assert_eq!(rt; MOST.check(), Ok(()));

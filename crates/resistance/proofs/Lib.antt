@@ -2,4 +2,3 @@ pub mod Nearness
 pub mod Margins
 pub mod OneLayer
 pub mod Sizes
-pub mod Granting

@@ -5,7 +5,7 @@ use Rattle.ground.specs.Table.{strata}
 use Rattle.pile.specs.declared.numbers.PileNumbers.{PileNumbers}
 use Rattle.pile.specs.Driven.{numbers_of}
 use Rattle.resistance.specs.Judging.{load_flaw}
-use Rattle.resistance.proofs.Granting.{granted}
+use Rattle.terms.proofs.Chained.{granted}
 use Rattle.shaft.specs.Attached.{strain_refusal}
 use Rattle.shaft.specs.Standing.{StandsOn}
 use Rattle.settling.specs.Piles.{shaft_frictions}
@@ -25,6 +25,6 @@ returns g c =
     let s = c.in_ok-shaft.shaft in
     let founded = c.in_ok-footing.ensures in
     let fetched = c.in_ok-frictions.ensures in
-    let asked : load_flaw load ≡ None = granted _ _ (sym c.check_load.ensures ∙ c.in_ok-check_load.was) in
+    let asked : load_flaw load ≡ None = granted _ c.in_ok-check_load.ensures in
     let stands = told (λ (zs : List Layer) (r : PileNumbers) (qs : List ℕ). (strain_refusal zs r qs ≡ None) × StandsOn zs r qs s) _ ls _ n _ (shaft_frictions answer ls n) founded.1.0 founded.1.1 fetched.1 c.in_ok-shaft.ensures in
     answered answer shaft tip (keeps place.Shaft) (keeps place.Tip) load asked ls n s stands.1 c.settlement.result c.ok_or.result founded.0 fetched.0 stands.0 c.settlement.ensures c.ok_or.ensures.value

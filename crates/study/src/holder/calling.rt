@@ -13,7 +13,7 @@ use ground::layer::{Amendment, Layer};
 use ground::table::Ground;
 use pile::driven::Pile;
 use pile::numbers::PileNumbers;
-use resistance::judging::{flaw_of, judge};
+use resistance::judging::{check_question, judge};
 use std::alloc::{AllocError, Global};
 use terms::refusal::Refusal;
 use transfer::TransferLaw;
@@ -67,12 +67,8 @@ impl<R: FrictionRule, L: TransferLaw> Study<R, L> {
     pub fn judge(&self, question: &Question) -> Result<Judgement, Refusal>
         ensures { Answers (judge_refusal (R.FrictionRule.answer (rule_of self.now)) (site_of self.now) question.now) (JudgedOn (meaning R.FrictionRule self.now) (site_of self.now) question.now) result }
     {
-        match self.pile {
-            Some(pile) => judge(&self.rule, &self.ground, &pile, question),
-            None => match flaw_of(question) {
-                Some(refusal) => Err(refusal),
-                None => Err(Refusal::NoPile),
-            },
-        }
+        check_question(question)?;
+        let pile = self.pile.ok_or(Refusal::NoPile)?;
+        judge(&self.rule, &self.ground, &pile, question)
     }
 }

@@ -1,7 +1,7 @@
 use Rattle.std.proofs.Common.{◌≡◌, ℕ, ◌≤◌, List, None, sym, ap, ◌∙◌, subst, arith}
 use Rattle.terms.specs.Fractions.{Near}
 use Rattle.terms.proofs.Chained.{or_free}
-use Rattle.resistance.proofs.Granting.{granted}
+use Rattle.terms.proofs.Chained.{granted}
 use Rattle.ground.specs.declared.layer.Layer.{Layer}
 use Rattle.ground.specs.Layers.{depth}
 use Rattle.ground.specs.Table.{strata}
@@ -33,7 +33,7 @@ returns g c =
     let r : c.resistance.result ≡ resistance_by answer ls n = c.resistance.ensures.value ∙ ap (λ (xs : List Layer). resistance_over xs (numbers_on f) qs) stands.1.0
     ∙ ap (λ (m : PileNumbers). resistance_over ls m qs) stands.1.1 ∙ ap (resistance_over ls n) fetched.1 in
     let same : c.judgement.result ≡ judgement_of (resistance_by answer ls n) q = c.judgement.ensures ∙ ap (λ (x : ℕ). judgement_of x q) r in
-    let asked : question_flaw q ≡ None = granted _ _ (sym c.check_question.ensures ∙ c.in_ok-check_question.was) in
+    let asked : question_flaw q ≡ None = granted _ c.in_ok-check_question.ensures in
     let deep : n.length ≤ depth ls = omega (arith, f.deep, ap depth stands.1.0, ap needed_depth stands.1.1) in
     let near = resistance_near tolerance fraction answer (g.met.R.FrictionRule.within rule) ls n deep fetched.0 in (
       or_free _ _ asked (or_free _ _ stands.0 fetched.0),
