@@ -1,4 +1,3 @@
 pub mod Onward
-pub mod Listed
 pub mod Once
 pub mod Shapes

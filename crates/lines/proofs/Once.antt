@@ -69,7 +69,7 @@ letter_once line l m a b = sym (letter_back l) ∙ ap letter_at (sym a.1 ∙ b.1
 abbrev build : Letter → List ℕ → Call
 build letter_l vs =
     Lay (record { soil = get_or vs 0 0; thickness = get_or vs 1 0; pressure = get_or vs 2 0; modulus = get_or vs 3 0; ceiling = get_or vs 4 0 })
-build letter_a vs = Amend (get_or vs 0 0) (get_or vs 1 0) (get_or vs 2 0)
+build letter_a vs = Amend (record { index = get_or vs 0 0; pressure = get_or vs 1 0; modulus = get_or vs 2 0 })
 build letter_u vs = Lift
 build letter_p vs =
     Drive (record { category = get_or vs 0 0; mark = get_or vs 1 0; diameter = get_or vs 2 0; perimeter = get_or vs 3 0; tip_area = get_or vs 4 0; section = get_or vs 5 0; modulus = get_or vs 6 0; length = get_or vs 7 0; tip_factor = get_or vs 8 0; step = get_or vs 9 0 })
@@ -77,14 +77,14 @@ build letter_j vs = Judge (record { load = get_or vs 0 0; model_factor = get_or 
 
 build_back : (c : Call) → build (letter_of c) (numbers_of c) ≡ c
 build_back (Lay l) = refl
-build_back (Amend i p m) = refl
+build_back (Amend a) = refl
 build_back Lift = refl
 build_back (Drive p) = refl
 build_back (Judge q) = refl
 
 length_numbers : (c : Call) → length (numbers_of c) ≡ arity (letter_of c)
 length_numbers (Lay l) = refl
-length_numbers (Amend i p m) = refl
+length_numbers (Amend a) = refl
 length_numbers Lift = refl
 length_numbers (Drive p) = refl
 length_numbers (Judge q) = refl

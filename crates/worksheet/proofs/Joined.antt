@@ -3,9 +3,9 @@ use Rattle.std.proofs.Common.{◌≡◌, ℕ, suc, ◌<◌, ◌⊎◌, List, [],
 use Rattle.std.proofs.lemmas.List.{nil_from_length}
 use Rattle.friction.specs.Rule.{Agrees}
 use Rattle.friction.specs.declared.rule.FrictionRule.{Ghosts}
+use Rattle.study.specs.Views.{meaning}
 use Rattle.worksheet.specs.Cutting.{Cut}
 use Rattle.worksheet.specs.Pieces.{WholeLines, PiecesJoin}
-use Rattle.worksheet.specs.Sheets.{means}
 use Rattle.worksheet.proofs.Steps.{works_join}
 
 -- what ends with a line feed has one at the end of each part that is not empty
@@ -48,7 +48,7 @@ cut_join a b (x ∷ xs) ys w (rest, l, c) k = by_cut l.cut (λ v. cut_join rest 
     by_cut (inr e) go = absurd (not_whole x (omega (arith, l.some, ap length e.0)) l.solid (subst (λ (t : List ℕ). WholeLines t) e.0 w))
 
 module _ {R L : Type 0} (rule : Ghosts R) (within : (r : R) (soil category p : ℕ) → Agrees rule.tolerance (rule.fraction r soil category p) (rule.answer r soil category p)) where
-  pub pieces_join : PiecesJoin {R = R} {L = L} (means rule)
+  pub pieces_join : PiecesJoin {R = R} {L = L} (meaning rule)
   pieces_join s u t a b old mid new w p q = record {
     lines = p.lines ++ q.lines;
     cut = cut_join a b p.lines q.lines w p.cut q.cut;

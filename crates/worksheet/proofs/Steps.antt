@@ -8,7 +8,7 @@ use Rattle.lines.specs.declared.letter.Letter.{Letter}
 use Rattle.lines.specs.Print.{answer_text}
 use Rattle.study.specs.declared.holder.Study.{Study}
 use Rattle.study.specs.Sites.{Plain, plain}
-use Rattle.study.specs.Views.{site_of, rule_of}
+use Rattle.study.specs.Views.{site_of, rule_of, meaning}
 use Rattle.story.specs.Story.Told.{over}
 use Rattle.story.specs.Tales.{Tale}
 use Rattle.story.proofs.Splits.{told_one}
@@ -16,7 +16,7 @@ use Rattle.story.proofs.Telling.{same_meaning, tale, tale_join}
 use Rattle.worksheet.specs.Cutting.{Line, Cut}
 use Rattle.worksheet.specs.Replies.{Heads, Replies}
 use Rattle.worksheet.specs.Replies.Replies.{none, said, misread}
-use Rattle.worksheet.specs.Sheets.{means, AnswersLine, Works, Sheet}
+use Rattle.worksheet.specs.Sheets.{AnswersLine, Works, Sheet}
 
 -- two runs of lines are one
 replies_join : {xs ys : List (List ℕ)} {cs ds : List Plain} {as₁ as₂ : List Answer} {out more : List ℕ} → Replies xs cs as₁ out → Replies ys ds as₂ more → Replies (xs ++ ys) (cs ++ ds) (as₁ ++ as₂) (out ++ more)
@@ -30,26 +30,26 @@ module _ {R L : Type 0} (rule : Ghosts R) (within : (r : R) (soil category p : �
   agrees : (s : Study R L) (soil category p : ℕ) → Agrees rule.tolerance (rule.fraction (rule_of s) soil category p) (rule.answer (rule_of s) soil category p)
   agrees s = within (rule_of s)
 
-  nothing_worked : (s : Study R L) (old : List ℕ) → Works (means rule) s s [] old old
+  nothing_worked : (s : Study R L) (old : List ℕ) → Works (meaning rule) s s [] old old
   nothing_worked s old = record {
     calls = [];
     answers = [];
     written = [];
     replies = none;
-    tale = tale (means rule) agrees s s [] [] over (refl, refl);
+    tale = tale (meaning rule) agrees s s [] [] over (refl, refl);
     output = sym (append-nil old);
   }
 
   -- one line, by its answer
-  pub line_worked : {s t : Study R L} {line : List ℕ} {a : Answer} (letter : Option Letter) (old new : List ℕ) → Heads line letter → AnswersLine (means rule) s line a t → new ≡ old ++ answer_text letter a
-      → Works (means rule) s t (line ∷ []) old new
+  pub line_worked : {s t : Study R L} {line : List ℕ} {a : Answer} (letter : Option Letter) (old new : List ℕ) → Heads line letter → AnswersLine (meaning rule) s line a t → new ≡ old ++ answer_text letter a
+      → Works (meaning rule) s t (line ∷ []) old new
   line_worked {s} {t} {line} {a} letter old new h (inl w) e =
       record {
         calls = plain w.0 ∷ [];
         answers = a ∷ [];
         written = answer_text letter a ++ [];
         replies = said letter w.0 a h w.1 none;
-        tale = tale (means rule) agrees s t (plain w.0 ∷ []) (a ∷ []) (told_one (means rule s) (site_of s) (plain w.0) a (site_of t) w.2.step) w.2.kept;
+        tale = tale (meaning rule) agrees s t (plain w.0 ∷ []) (a ∷ []) (told_one (meaning rule s) (site_of s) (plain w.0) a (site_of t) w.2.step) w.2.kept;
         output = e ∙ sym (ap (λ o. old ++ o) (append-nil (answer_text letter a)));
       }
   line_worked {s} {t} {line} {a} letter old new h (inr w) e =
@@ -59,17 +59,17 @@ module _ {R L : Type 0} (rule : Ghosts R) (within : (r : R) (soil category p : �
         answers = [];
         written = answer_text letter (Refused w.0) ++ [];
         replies = misread letter w.0 h w.1 none;
-        tale = subst (λ (x : Study R L). Tale (means rule) s [] [] x) (sym same) (tale (means rule) agrees s s [] [] over (refl, refl));
+        tale = subst (λ (x : Study R L). Tale (meaning rule) s [] [] x) (sym same) (tale (meaning rule) agrees s s [] [] over (refl, refl));
         output = e ∙ ap (λ b. old ++ answer_text letter b) w.2 ∙ sym (ap (λ o. old ++ o) (append-nil (answer_text letter (Refused w.0))));
       }
 
-  pub works_join : {s u t : Study R L} {xs ys : List (List ℕ)} {old mid new : List ℕ} → Works (means rule) s u xs old mid → Works (means rule) u t ys mid new → Works (means rule) s t (xs ++ ys) old new
+  pub works_join : {s u t : Study R L} {xs ys : List (List ℕ)} {old mid new : List ℕ} → Works (meaning rule) s u xs old mid → Works (meaning rule) u t ys mid new → Works (meaning rule) s t (xs ++ ys) old new
   works_join {s} {u} {t} {xs} {ys} {old} {mid} {new} p q = record {
     calls = p.calls ++ q.calls;
     answers = p.answers ++ q.answers;
     written = p.written ++ q.written;
     replies = replies_join p.replies q.replies;
-    tale = tale_join (means rule) agrees s u t p.calls q.calls p.answers q.answers (same_meaning rule.tolerance rule.fraction rule.answer s u p.tale.kept.0) p.tale q.tale;
+    tale = tale_join (meaning rule) agrees s u t p.calls q.calls p.answers q.answers (same_meaning rule s u p.tale.kept.0) p.tale q.tale;
     output = q.output ∙ ap (λ o. o ++ q.written) p.output ∙ append_assoc old p.written q.written;
   }
 
@@ -77,12 +77,12 @@ module _ {R L : Type 0} (rule : Ghosts R) (within : (r : R) (soil category p : �
   pub record Sofar (s t : Study R L) (text rest old new : List ℕ) : Type 0 where
     pub lines : List (List ℕ)
     pub cut : (later : List (List ℕ)) → Cut rest later → Cut text (lines ++ later)
-    pub works : Works (means rule) s t lines old new
+    pub works : Works (meaning rule) s t lines old new
 
   pub none_yet : (s : Study R L) (text old : List ℕ) → Sofar s s text text old old
   none_yet s text old = record { lines = []; cut = λ later h. h; works = nothing_worked s old }
 
-  pub one_more : {s u t : Study R L} {text rest after line old mid new : List ℕ} → Sofar s u text rest old mid → Line rest line after → Works (means rule) u t (line ∷ []) mid new
+  pub one_more : {s u t : Study R L} {text rest after line old mid new : List ℕ} → Sofar s u text rest old mid → Line rest line after → Works (meaning rule) u t (line ∷ []) mid new
       → Sofar s t text after old new
   one_more {s} {u} {t} {text} {rest} {after} {line} p l w = record {
     lines = p.lines ++ line ∷ [];
@@ -90,7 +90,7 @@ module _ {R L : Type 0} (rule : Ghosts R) (within : (r : R) (soil category p : �
     works = works_join p.works w;
   }
 
-  pub all_done : {s t : Study R L} {text rest old new : List ℕ} → length rest ≡ 0 → Sofar s t text rest old new → Sheet (means rule) s t text old new
+  pub all_done : {s t : Study R L} {text rest old new : List ℕ} → length rest ≡ 0 → Sofar s t text rest old new → Sheet (meaning rule) s t text old new
   all_done {text = text} e p = record {
     lines = p.lines;
     cut = subst (λ (ls : List (List ℕ)). Cut text ls) (append-nil p.lines) (p.cut [] e);

@@ -5,18 +5,12 @@ use Rattle.calls.specs.declared.Call.{Call}
 use Rattle.calls.specs.declared.Answer.{Answer}
 use Rattle.calls.specs.declared.Answer.TheVariants.{Refused}
 use Rattle.lines.specs.Grammar.{Says, Misread}
-use Rattle.friction.specs.declared.rule.FrictionRule.{Ghosts}
 use Rattle.study.specs.declared.holder.Study.{Study}
 use Rattle.study.specs.Sites.{Plain, plain}
 use Rattle.study.specs.Rules.{Meaning}
-use Rattle.study.specs.Views.{meaning}
 use Rattle.story.specs.Tales.{Performs, Tale}
 use Rattle.worksheet.specs.Cutting.{Cut}
 use Rattle.worksheet.specs.Replies.{Replies}
-
--- the meaning of the study's rule
-abbrev pub means : {R L : Type 0} → Ghosts R → Study R L → Meaning
-means rule = meaning rule.tolerance rule.fraction rule.answer
 
 module _ {R L : Type 0} (meaning : Study R L → Meaning) where
   -- one line: it says a call, which is performed; or it is misread, and the study stays

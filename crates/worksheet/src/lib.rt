@@ -4,9 +4,10 @@
 ghost use Rattle.std.specs.Prelude.{◌≡◌, ◌+◌, ◌*◌, ◌<◌, ◌≤◌, true, [], ◌∷◌, length, is_ok, vec_len, vec_capacity, MatchOption, MatchResult};
 ghost use Rattle.std.specs.Iterator.{at_most};
 ghost use Rattle.lines.specs.Print.{longest_answer};
+ghost use Rattle.study.specs.Views.{meaning};
 ghost use Rattle.worksheet.specs.Cutting.{Line};
 ghost use Rattle.worksheet.specs.Pieces.{PiecesJoin};
-ghost use Rattle.worksheet.specs.Sheets.{means, AnswersLine, Works, Sheet, Halted};
+ghost use Rattle.worksheet.specs.Sheets.{AnswersLine, Works, Sheet, Halted};
 
 use calls::Answer;
 use friction::rule::FrictionRule;
@@ -53,7 +54,7 @@ impl<'a> Iterator for Lines<'a> {
 
 // What the study answers to a line.
 fn reply<R: FrictionRule, L: TransferLaw>(study: &mut Study<R, L>, line: &[u8]) -> Answer
-    ensures { AnswersLine (means R.FrictionRule) study.old line.now result study.new }
+    ensures { AnswersLine (meaning R.FrictionRule) study.old line.now result study.new }
 {
     match parse_line(line) {
         Ok(call) => perform(study, &call),
@@ -67,7 +68,7 @@ pub fn work_line<R: FrictionRule, L: TransferLaw>(
     line: &[u8],
     out: &mut Vec<u8>,
 ) -> Result<(), AllocError>
-    ensures cases { MatchResult result (λ _. Works (means R.FrictionRule) study.old study.new (line.now ∷ []) out.old.items out.new.items) (λ _. (study.new ≡ study.old) × (out.new.items ≡ out.old.items)) }
+    ensures cases { MatchResult result (λ _. Works (meaning R.FrictionRule) study.old study.new (line.now ∷ []) out.old.items out.new.items) (λ _. (study.new ≡ study.old) × (out.new.items ≡ out.old.items)) }
     ensures len { vec_len out.new ≤ vec_len out.old + longest_answer }
     ensures capacity { vec_capacity out.old ≤ vec_capacity out.new }
     ensures succeeds { vec_len out.old + longest_answer ≤ vec_capacity out.old → is_ok result ≡ true }
@@ -83,7 +84,7 @@ pub fn work_sheet<R: FrictionRule, L: TransferLaw>(
     text: &[u8],
     out: &mut Vec<u8>,
 ) -> Result<(), AllocError>
-    ensures cases { MatchResult result (λ _. Sheet (means R.FrictionRule) study.old study.new text.now out.old.items out.new.items) (λ _. Halted (means R.FrictionRule) study.old study.new text.now out.old.items out.new.items) }
+    ensures cases { MatchResult result (λ _. Sheet (meaning R.FrictionRule) study.old study.new text.now out.old.items out.new.items) (λ _. Halted (meaning R.FrictionRule) study.old study.new text.now out.old.items out.new.items) }
     ensures succeeds { vec_len out.old + longest_answer * length text.now ≤ vec_capacity out.old → is_ok result ≡ true }
 {
     for line in Lines(text) {
@@ -94,7 +95,7 @@ pub fn work_sheet<R: FrictionRule, L: TransferLaw>(
 
 // That a sheet may be worked in pieces of whole lines, as they come.
 pub fn pieces_join<R: FrictionRule, L: TransferLaw>(_study: &Study<R, L>)
-    ensures { PiecesJoin {R = R} {L = L} (means R.FrictionRule) }
+    ensures { PiecesJoin {R = R} {L = L} (meaning R.FrictionRule) }
 {}
 
 #[cfg(test)]
