@@ -12,7 +12,7 @@ pub mod making;
 
 #[derive(Clone, Copy)]
 pub struct Footing<'a> {
-    ground: &'a Ground,
-    pile: &'a Pile,
+    pub(super) ground: &'a Ground,
+    pub(super) pile: &'a Pile,
     ghost deep: { needed_depth (numbers_of pile.now) ≤ depth (strata ground.now) },
 }

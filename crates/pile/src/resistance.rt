@@ -32,10 +32,10 @@ impl Footing<'_> {
         ensures value { result ≡ resistance_over (layers_under self.now) (numbers_on self.now) (friction_list frictions.now) }
         ensures small { result ≤ max_resistance }
     {
-        let numbers = self.pile().numbers();
+        let numbers = self.pile.numbers();
         numbers.tip_area * self.tip_resistance()
             + along_shaft(
-                self.ground().layers(),
+                self.ground.layers(),
                 numbers.perimeter,
                 numbers.length,
                 frictions.values(),

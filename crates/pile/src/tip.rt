@@ -82,7 +82,7 @@ impl Footing<'_> {
     pub fn bearing(&self) -> Bearing
         ensures { BearsAlone (layers_under self.now) (numbers_on self.now).length result }
     {
-        bearing_layer(self.ground(), self.pile().numbers().length).unwrap()
+        bearing_layer(self.ground, self.pile.numbers().length).unwrap()
     }
 
     // qb in Pa.
@@ -90,11 +90,11 @@ impl Footing<'_> {
         ensures value { result ≡ tip_resistance (layers_under self.now) (numbers_on self.now) }
         ensures small { result ≤ unit_resistance_limits.most }
     {
-        let numbers = self.pile().numbers();
+        let numbers = self.pile.numbers();
         let tip = numbers.length;
-        let above = half_height(self.pile()).min(tip - self.bearing().top);
-        let below = HALF_HEIGHTS_BELOW * half_height(self.pile());
-        let integral = pressure_between(self.ground(), tip - above, tip + below);
+        let above = half_height(self.pile).min(tip - self.bearing().top);
+        let below = HALF_HEIGHTS_BELOW * half_height(self.pile);
+        let integral = pressure_between(self.ground, tip - above, tip + below);
         PASCALS * numbers.tip_factor * integral / (above + below)
     }
 }

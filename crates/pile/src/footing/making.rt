@@ -1,14 +1,19 @@
 // Setting a pile in a ground, and reading both again.
-ghost use Rattle.std.specs.Prelude.{◌≡◌};
+ghost use Rattle.std.specs.Prelude.{◌≡◌, ◌≤◌, true, length};
+ghost use Rattle.terms.specs.Limits.{max_layers};
 ghost use Rattle.terms.specs.Chains.{Answers};
+ghost use Rattle.ground.specs.Layers.{sound};
 ghost use Rattle.ground.specs.Table.{strata};
+ghost use Rattle.pile.specs.Numbers.{sturdy};
 ghost use Rattle.pile.specs.Driven.{numbers_of};
 ghost use Rattle.pile.specs.Tip.{shallow_refusal};
 ghost use Rattle.pile.specs.Footing.{layers_under, numbers_on};
 
 use crate::driven::Pile;
 use crate::footing::Footing;
+use crate::numbers::PileNumbers;
 use crate::tip::depth_needed;
+use ground::layer::Layer;
 use ground::table::Ground;
 use terms::refusal::Refusal;
 
@@ -24,15 +29,19 @@ impl<'a> Footing<'a> {
         Ok(Footing { ground, pile })
     }
 
-    pub fn ground(&self) -> &'a Ground
-        ensures { strata result.now ≡ layers_under self.now }
+    // The uppermost first.
+    pub fn layers(&self) -> &'a [Layer]
+        ensures value { result.now ≡ layers_under self.now }
+        ensures few { length result.now ≤ max_layers }
+        ensures fit { sound result.now ≡ true }
     {
-        self.ground
+        self.ground.layers()
     }
 
-    pub fn pile(&self) -> &'a Pile
-        ensures { numbers_of result.now ≡ numbers_on self.now }
+    pub fn numbers(&self) -> PileNumbers
+        ensures value { result ≡ numbers_on self.now }
+        ensures fit { sturdy result ≡ true }
     {
-        self.pile
+        self.pile.numbers()
     }
 }

@@ -40,6 +40,7 @@ impl Frictions {
     }
 }
 
+// No derive clones a struct with a ghost field.
 impl Clone for Frictions {
     ghost is_clone = { λ f g. friction_list g ≡ friction_list f };
 

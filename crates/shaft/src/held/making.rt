@@ -65,8 +65,8 @@ fn body_on(footing: &Footing) -> PileBody
     ensures bodied { Body result }
     ensures borne { Contact result.tip_soil result.tip_modulus result.tip_resistance }
 {
-    let numbers = footing.pile().numbers();
-    let layer = footing.ground().layers()[footing.bearing().index as usize];
+    let numbers = footing.numbers();
+    let layer = footing.layers()[footing.bearing().index as usize];
     PileBody {
         tip_area: numbers.tip_area,
         perimeter: numbers.perimeter,
@@ -87,12 +87,12 @@ impl Shaft {
         if footing.resistance(frictions) > MOST_STRAIN * body.stiffness {
             return Err(Refusal::OverstrainedPile);
         }
-        let numbers = footing.pile().numbers();
+        let numbers = footing.numbers();
         Ok(Shaft {
             body,
             step: numbers.step,
             parts: attach_up(
-                footing.ground().layers(),
+                footing.layers(),
                 numbers.length,
                 frictions.values(),
             ),
@@ -108,6 +108,7 @@ impl Shaft {
     }
 }
 
+// No derive clones a struct with a ghost field.
 impl Clone for Shaft {
     ghost is_clone = { λ s t. (body_of t ≡ body_of s) × (step_of t ≡ step_of s) × (parts_of t ≡ parts_of s) };
 

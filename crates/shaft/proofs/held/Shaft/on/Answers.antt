@@ -18,7 +18,7 @@ invariant_of-result c =
     let parts = c.attach_up.result.items in
     let told = c.attach_up.ensures in
     let bounds = pile_bounds r c.numbers-numbers.ensures.fit in
-    let same : parts ≡ parts_up ls n qs = told ∙ parts_same ls zs n r qs ys (c.numbers-numbers.ensures.value ∙ c.pile.ensures) (c.layers.ensures.value ∙ c.ground.ensures) c.values.ensures.value in
+    let same : parts ≡ parts_up ls n qs = told ∙ parts_same ls zs n r qs ys c.numbers-numbers.ensures.value c.layers.ensures.value c.values.ensures.value in
     record {
       bodied = body.bodied;
       borne = body.borne;

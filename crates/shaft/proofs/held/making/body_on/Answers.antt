@@ -15,6 +15,6 @@ pub returns-clause-borne : goal.returns-clause-borne
 returns-clause-borne c =
     let zs = c.layers.result.now in
     let i = c.bearing.result.index in
-    let there : i < length zs = omega (arith, c.bearing.ensures.bears.there, ap length c.layers.ensures.value, ap length c.ground.ensures) in
+    let there : i < length zs = omega (arith, c.bearing.ensures.bears.there, ap length c.layers.ensures.value) in
     let bounds = layer_bounds (get_or zs i no_layer) (sound_at zs i no_layer there c.layers.ensures.fit) in
     (bounds.soil, bounds.modulus, c.tip_resistance.ensures.small)
