@@ -1,4 +1,4 @@
-use Rattle.std.proofs.Common.{◌≡◌, ℕ, List, None, sym, ◌∙◌}
+use Rattle.std.proofs.Common.{◌≡◌, ℕ, List, None}
 use Rattle.transfer.specs.declared.Place.TheVariants as place
 use Rattle.ground.specs.declared.layer.Layer.{Layer}
 use Rattle.ground.specs.Table.{strata}

@@ -91,11 +91,7 @@ impl Shaft {
         Ok(Shaft {
             body,
             step: numbers.step,
-            parts: attach_up(
-                footing.layers(),
-                numbers.length,
-                frictions.values(),
-            ),
+            parts: attach_up(footing.layers(), numbers.length, frictions.values()),
         })
     }
 
