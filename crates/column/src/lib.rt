@@ -3,7 +3,7 @@
 
 ghost use Rattle.column.specs.Bracket.{BracketStands, EndsRise};
 
-// What a column needs to know of the pile and of the layer that bears it.
+// What a column needs to know of the pile and of the layer that bears it. Any numbers: the theorem of the bracket is about all.
 #[derive(Clone, Copy, PartialEq, Eq, Debug)]
 pub struct PileBody {
     // A, mm²
@@ -21,7 +21,7 @@ pub struct PileBody {
     pub tip_resistance: u64,
 }
 
-// A part of the shaft in one layer, or a slice of such a part.
+// A part of the shaft in one layer, or a slice of such a part; any numbers again.
 #[derive(Clone, Copy, PartialEq, Eq, Default, Debug)]
 pub struct Part {
     // mm

@@ -3,12 +3,13 @@ ghost use Rattle.std.specs.Prelude.{◌≡◌, true, false, MatchOption};
 ghost use Rattle.terms.specs.Limits.{Within, category_limits, pressure_limits};
 ghost use Rattle.terms.specs.Soils.{number_of_soil};
 
-use crate::rule::is_beyond;
+use crate::rule::Asking;
 use terms::soil::Soil;
 
 #[derive(Clone, Copy)]
 pub(super) struct Asked {
     pub(super) soil: Soil,
+    // A row of a rule's table, and nothing more to any rule.
     pub(super) category: u64,
     pub(super) pressure: u64,
     ghost category_within: { Within category_limits category },
@@ -19,17 +20,17 @@ impl Asked {
     ghost use Rattle.friction.specs.Rule.{beyond_limits};
 
     // None beyond the limits.
-    pub(super) fn new(soil: u64, category: u64, pressure: u64) -> Option<Asked>
-        ensures { MatchOption result (beyond_limits soil category pressure ≡ true) (λ a. (beyond_limits soil category pressure ≡ false) × (number_of_soil a.soil ≡ soil) × (a.category ≡ category) × (a.pressure ≡ pressure)) }
+    pub(super) fn new(asking: Asking) -> Option<Asked>
+        ensures { MatchOption result (beyond_limits asking.soil asking.category asking.pressure ≡ true) (λ a. (beyond_limits asking.soil asking.category asking.pressure ≡ false) × (number_of_soil a.soil ≡ asking.soil) × (a.category ≡ asking.category) × (a.pressure ≡ asking.pressure)) }
     {
-        if is_beyond(soil, category, pressure) {
+        if asking.is_beyond() {
             return None;
         }
-        let soil = Soil::try_from(soil).ok()?;
+        let soil = Soil::try_from(asking.soil).ok()?;
         Some(Asked {
             soil,
-            category,
-            pressure,
+            category: asking.category,
+            pressure: asking.pressure,
         })
     }
 }

@@ -5,7 +5,7 @@ ghost use Rattle.friction.specs.Cone.{cone_at, cone_fraction, cone_answer};
 ghost use Rattle.std.proofs.Common.{rules};
 
 use crate::asked::Asked;
-use crate::rule::FrictionRule;
+use crate::rule::{Asking, FrictionRule};
 use crate::tolerance::Tolerance;
 use terms::soil::Soil;
 
@@ -57,8 +57,8 @@ impl FrictionRule for ConePressuremeter {
         Self::TOLERANCE.pascals
     }
 
-    fn ask(&self, soil: u64, category: u64, pressure: u64) -> Option<u64> {
-        let asked = Asked::new(soil, category, pressure)?;
+    fn ask(&self, asking: Asking) -> Option<u64> {
+        let asked = Asked::new(asking)?;
         match asked.soil {
             Soil::Clay => Some(friction_at(asked.pressure)),
             _ => None,

@@ -8,7 +8,7 @@ ghost use Rattle.friction.specs.Tables.{pressuremeter_within};
 ghost use Rattle.std.proofs.Common.{rules};
 
 use crate::asked::Asked;
-use crate::rule::FrictionRule;
+use crate::rule::{Asking, FrictionRule};
 use crate::tolerance::Tolerance;
 use terms::soil::Soil;
 
@@ -151,12 +151,12 @@ impl FrictionRule for Pressuremeter {
     }
 
     // Any answer inside the tolerance is right; docs/METHOD.md says which one this is.
-    #[tactic(auto, using(crate::specs::Tables::alpha_small, crate::specs::Tables::amount_small, crate::specs::Tables::pressuremeter_within))]
-    fn ask(&self, soil: u64, category: u64, pressure: u64) -> Option<u64>
-        ensures same { result ≡ pressuremeter_answer soil category pressure }
-        ensures near { Agrees 10 (pressuremeter_fraction last_term soil category pressure) result }
+    #[tactic(auto, using(crate::specs::Tables::pressuremeter_within))]
+    fn ask(&self, asking: Asking) -> Option<u64>
+        ensures same { result ≡ pressuremeter_answer asking.soil asking.category asking.pressure }
+        ensures near { Agrees 10 (pressuremeter_fraction last_term asking.soil asking.category asking.pressure) result }
     {
-        let asked = Asked::new(soil, category, pressure)?;
+        let asked = Asked::new(asking)?;
         let alpha = asked.alpha()?;
         let sum = scaled_sum(asked.growth());
         Some(rounded_down(alpha * asked.line(), sum))

@@ -4,9 +4,30 @@ ghost use Rattle.terms.specs.Fractions.{Fraction};
 ghost use Rattle.friction.specs.Rule.{Agrees, beyond_limits};
 
 use crate::tolerance::Tolerance;
-use terms::limits;
+use terms::limits::{CATEGORY, PRESSURE, SOIL};
 
-// Pressure in kPa, friction in Pa. `fraction` is what the rule means and `answer` what it gives; asking changes nothing.
+// What a rule is asked about a layer and a pile; any three numbers.
+#[derive(Clone, Copy, PartialEq, Eq, Debug)]
+pub struct Asking {
+    pub soil: u64,
+    // of the pile
+    pub category: u64,
+    // net limit pressure, kPa
+    pub pressure: u64,
+}
+
+impl Asking {
+    // Beyond the limits no rule has an answer.
+    pub fn is_beyond(self) -> bool
+        ensures { result ≡ beyond_limits self.soil self.category self.pressure }
+    {
+        SOIL.excludes(self.soil)
+            || CATEGORY.excludes(self.category)
+            || PRESSURE.excludes(self.pressure)
+    }
+}
+
+// Friction is in Pa. `fraction` is what the rule means and `answer` what it gives; asking changes nothing.
 pub trait FrictionRule {
     const TOLERANCE: Tolerance;
 
@@ -22,8 +43,8 @@ pub trait FrictionRule {
         ensures same { result ≡ tolerance }
         ensures small { (1 ≤ result) × (result ≤ 10) };
 
-    fn ask(&self, soil: u64, category: u64, pressure: u64) -> Option<u64>
-        ensures { result ≡ answer self.now soil category pressure };
+    fn ask(&self, asking: Asking) -> Option<u64>
+        ensures { result ≡ answer self.now asking.soil asking.category asking.pressure };
 
     ghost least: { 1 ≤ tolerance };
 
@@ -32,13 +53,4 @@ pub trait FrictionRule {
     ghost beyond: { (r : Self) (soil category p : ℕ) → beyond_limits soil category p ≡ true → fraction r soil category p ≡ None };
 
     ghost within: { (r : Self) (soil category p : ℕ) → Agrees tolerance (fraction r soil category p) (answer r soil category p) };
-}
-
-// Beyond these limits no rule has an answer.
-pub fn is_beyond(soil: u64, category: u64, pressure: u64) -> bool
-    ensures { result ≡ beyond_limits soil category pressure }
-{
-    limits::SOIL.excludes(soil)
-        || limits::CATEGORY.excludes(category)
-        || limits::PRESSURE.excludes(pressure)
 }

@@ -9,7 +9,7 @@ ghost use Rattle.pile.specs.Shaft.{parts_above};
 ghost use Rattle.resistance.specs.UnitFriction.{friction_of};
 ghost use Rattle.resistance.specs.Fetched.{unsaid_from, frictions_of};
 
-use friction::rule::FrictionRule;
+use friction::rule::{Asking, FrictionRule};
 use ground::layer::Layer;
 use ground::table::Ground;
 use pile::driven::Pile;
@@ -39,7 +39,7 @@ fn friction_of(numbers: &PileNumbers, layer: &Layer, answer: u64) -> u64
     }
 }
 
-// The rule is asked once for each layer whose top is above the tip, the uppermost first, and for none after one that it refuses.
+// Of any ground and pile, deep enough or not. The rule is asked once for each layer whose top is above the tip, the uppermost first, and for none after one that it refuses.
 pub fn fetch<R: FrictionRule>(rule: &R, ground: &Ground, pile: &Pile) -> Result<Frictions, Refusal>
     ensures { Answers (unsaid_from (R.FrictionRule.answer rule.now) (numbers_of pile.now) 0 (parts_above (numbers_of pile.now).length (strata ground.now))) (λ f. friction_list f ≡ frictions_of (R.FrictionRule.answer rule.now) (numbers_of pile.now) (parts_above (numbers_of pile.now).length (strata ground.now))) result }
 {
@@ -51,9 +51,12 @@ pub fn fetch<R: FrictionRule>(rule: &R, ground: &Ground, pile: &Pile) -> Result<
             break;
         }
         let index = index as u64;
-        let answer = rule
-            .ask(layer.soil, numbers.category, layer.pressure)
-            .ok_or(Refusal::NoFriction { index })?;
+        let asking = Asking {
+            soil: layer.soil,
+            category: numbers.category,
+            pressure: layer.pressure,
+        };
+        let answer = rule.ask(asking).ok_or(Refusal::NoFriction { index })?;
         // It always fits: a ground has no more layers than a list has places, and no friction of a layer is too great.
         frictions
             .push(friction_of(&numbers, layer, answer))

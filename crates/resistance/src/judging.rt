@@ -54,7 +54,7 @@ fn judgement(resistance: u64, question: &Question) -> Judgement
     }
 }
 
-// R, capacity and verdict of a pile in a ground; refused, in this order, for a number of the question, for the ground's depth, and for a layer of which the rule says nothing.
+// R, capacity and verdict of a pile in a ground, and no footing, since a ground too shallow is one of its refusals; refused, in this order, for a number of the question, for the ground's depth, and for a layer of which the rule says nothing.
 pub fn judge<R: FrictionRule>(
     rule: &R,
     ground: &Ground,

@@ -45,7 +45,7 @@ fn settlement<L: TransferLaw>(law: &L, shaft: &Shaft, load: u64) -> Option<Settl
     })
 }
 
-// The settlement of a pile in a ground under a load in kN; refused, in this order, for the load, for the ground's depth, for a layer of which the
+// The settlement under a load in kN of a pile in a ground, and no footing, since a ground too shallow is one of its refusals; refused, in this order, for the load, for the ground's depth, for a layer of which the
 // rule says nothing, for an overstrained pile, and for a load above which no lower march ends.
 pub fn settle<R: FrictionRule, L: TransferLaw>(
     rule: &R,

@@ -1,6 +1,6 @@
 // The transfer law of Frank and Zhao (1982), whose slopes come from the Ménard modulus.
 ghost use Rattle.std.specs.Prelude.{◌≡◌, ◌≤◌};
-ghost use Rattle.terms.specs.Limits.{nearest, soil_limits};
+ghost use Rattle.terms.specs.Soils.{number_of_soil};
 ghost use Rattle.transfer.specs.FrankZhao.{slope, frank_zhao_at};
 ghost use Rattle.transfer.specs.FrankZhaoCurve.{frank_zhao_transfers};
 
@@ -34,15 +34,15 @@ const SCALE: u64 = 10_000;
 pub struct FrankZhao;
 
 // It is bounded so that no product overflows.
-fn slope(place: Place, soil: u64) -> u64
-    ensures value { result ≡ slope place (nearest soil_limits soil) }
+fn slope(place: Place, soil: Soil) -> u64
+    ensures value { result ≡ slope place (number_of_soil soil) }
     ensures bound { result ≤ 110 }
 {
     let slopes = match place {
         Place::Shaft => SHAFT,
         Place::Tip => TIP,
     };
-    match Soil::nearest(soil) {
+    match soil {
         Soil::Sand => slopes.granular,
         _ => slopes.other,
     }
@@ -58,7 +58,7 @@ impl TransferLaw for FrankZhao {
         let resistance = UNIT_RESISTANCE.take_nearest(contact.resistance);
         let modulus = MODULUS.take_nearest(contact.modulus);
         let displacement = DISPLACEMENT.take_nearest(displacement);
-        let steep = slope(place, contact.soil) * modulus * displacement;
+        let steep = slope(place, Soil::nearest(contact.soil)) * modulus * displacement;
         let divisor = SCALE * DIAMETER.take_nearest(contact.width);
         let first = steep / divisor;
         let second = (2 * resistance * divisor + steep) / (5 * divisor);
