@@ -277,5 +277,7 @@ fn holds_32_frictions(rt: HostRuntime) -> Result<(), Fail> {
     }
     assert_eq!(rt; frictions.push(0), Err(Unfit::Full));
     assert_eq!(rt; frictions.values().len(), 32);
+    let again = frictions.clone()?;
+    assert_eq!(rt; again.values(), frictions.values());
     Ok(())
 }

@@ -59,6 +59,10 @@ fn stands_in_one_layer(rt: HostRuntime) -> Result<(), Fail> {
         friction: 50_000,
     };
     assert_eq!(rt; shaft.parts(), [part].as_slice());
+    let again = shaft.clone()?;
+    assert_eq!(rt; *again.body(), body);
+    assert_eq!(rt; again.step(), 1_000);
+    assert_eq!(rt; again.parts(), shaft.parts());
     Ok(())
 }
 
