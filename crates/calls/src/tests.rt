@@ -4,6 +4,7 @@ use terms::refusal::Refusal;
 
 #[test]
 fn answers_what_a_call_came_to(rt: HostRuntime) {
+    assert_eq!(rt; Answer::from(()), Answer::Done);
     let done: Result<(), Refusal> = Ok(());
     assert_eq!(rt; Answer::from(done), Answer::Done);
     let judgement = Judgement {
@@ -11,6 +12,7 @@ fn answers_what_a_call_came_to(rt: HostRuntime) {
         capacity: 372_332_015_810,
         carries: true,
     };
+    assert_eq!(rt; Answer::from(judgement), Answer::Judged(judgement));
     let judged: Result<Judgement, Refusal> = Ok(judgement);
     assert_eq!(rt; Answer::from(judged), Answer::Judged(judgement));
     let refused: Result<Judgement, Refusal> = Err(Refusal::LoadNotCarried);

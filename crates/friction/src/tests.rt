@@ -20,6 +20,16 @@ fn check_cases<R: FrictionRule>(rt: &impl Abort, rule: &R, cases: &[(Asking, Opt
 }
 
 #[test]
+fn beyond_each_limit(rt: HostRuntime) {
+    let is_beyond = |soil, category, pressure| at(soil, category, pressure, None).0.is_beyond();
+    assert!(rt; !is_beyond(1, 20, 10_000));
+    assert!(rt; !is_beyond(5, 1, 0));
+    assert!(rt; is_beyond(6, 1, 0));
+    assert!(rt; is_beyond(5, 0, 0));
+    assert!(rt; is_beyond(5, 1, 10_001));
+}
+
+#[test]
 fn cone_pressuremeter(rt: HostRuntime) {
     let cases = [
         at(1, 1, 0, Some(0)),

@@ -76,7 +76,7 @@ impl PileNumbers {
         self.mark == VIBRODRIVEN
     }
 
-    // The first flaw of category, mark, diameter, perimeter and tip area.
+    // Refused for the first flaw of category, mark, diameter, perimeter and tip area.
     fn check_shape(&self) -> Result<(), Refusal>
         ensures { result ≡ unless (shape_flaw self.now) }
     {
@@ -90,7 +90,7 @@ impl PileNumbers {
         AREA.admit(self.tip_area, Refusal::PileNumber { field: 5 })
     }
 
-    // The first flaw of section, modulus, length, tip factor and step.
+    // Refused for the first flaw of section, modulus, length, tip factor and step.
     fn check_stiffness(&self) -> Result<(), Refusal>
         ensures { result ≡ unless (stiffness_flaw self.now) }
     {
@@ -101,7 +101,7 @@ impl PileNumbers {
         STEP.admit(self.step, Refusal::PileNumber { field: 10 })
     }
 
-    // The first number outside its limits, or else a vibrodriven mark in a category that knows none.
+    // Refused for the first number outside its limits, or else for a vibrodriven mark in a category that knows none.
     pub fn check(&self) -> Result<(), Refusal>
         ensures { result ≡ unless (pile_flaw self.now) }
     {

@@ -28,7 +28,7 @@ pub fn check_load(load: u64) -> Result<(), Refusal>
     LOAD.admit(load, Refusal::QuestionNumber { field: 1 })
 }
 
-// The first number of a question outside its limits.
+// Refused for the first number of a question outside its limits.
 pub fn check_question(question: &Question) -> Result<(), Refusal>
     ensures { result ≡ unless (question_flaw question.now) }
 {

@@ -40,7 +40,7 @@ impl Frictions {
     }
 }
 
-// No derive clones a struct with a ghost field.
+// `Clone` without `Copy` is not derived for a struct with a ghost field.
 impl Clone for Frictions {
     ghost is_clone = { λ f g. friction_list g ≡ friction_list f };
 

@@ -104,7 +104,7 @@ impl Shaft {
     }
 }
 
-// No derive clones a struct with a ghost field.
+// `Clone` without `Copy` is not derived for a struct with a ghost field.
 impl Clone for Shaft {
     ghost is_clone = { λ s t. (body_of t ≡ body_of s) × (step_of t ≡ step_of s) × (parts_of t ≡ parts_of s) };
 
