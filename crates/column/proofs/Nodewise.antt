@@ -1,5 +1,7 @@
 -- Two columns node by node.
 use Rattle.std.proofs.Common.{◌≡◌, ℕ, zero, suc, ◌*◌, ◌<◌, ◌≤◌, List, [], ◌∷◌, length, get_or, refl, ap, le_of_suc-le-suc, not-suc-le-zero}
+use Rattle.std.specs.List.{AllZip}
+use Rattle.std.proofs.lemmas.List.Elements.{AllZip-get_or}
 use Rattle.column.specs.declared.Part.{Part}
 use Rattle.column.specs.declared.Node.{Node}
 use Rattle.column.specs.Nodes.{Nodes, last, nowhere}
@@ -16,10 +18,7 @@ pub record AtMost (k : ℕ) (whole n : Node) : Type 0 where
 
 -- R holds node by node
 abbrev pub Each : (Node → Node → Type 0) → List Node → List Node → Type 0
-Each R [] [] = Unit {0}
-Each R [] (m ∷ ms) = ⊥
-Each R (n ∷ ns) [] = ⊥
-Each R (n ∷ ns) (m ∷ ms) = R n m × Each R ns ms
+Each = AllZip
 
 abbrev pub Every : (Node → Node → Type 0) → Nodes → Nodes → Type 0
 Every R x y = R x.tip y.tip × Each R x.above y.above
@@ -36,11 +35,7 @@ every_last R x y e = each_last R x.tip y.tip x.above y.above e.0 e.1
 
 -- and at every index
 pub each_at : (R : Node → Node → Type 0) (ns ms : List Node) → Each R ns ms → (i : ℕ) → i < length ns → R (get_or ns i nowhere) (get_or ms i nowhere)
-each_at R [] [] e i h = absurd (not-suc-le-zero h)
-each_at R [] (m ∷ ms) e i h = absurd e
-each_at R (n ∷ ns) [] e i h = absurd e
-each_at R (n ∷ ns) (m ∷ ms) e zero h = e.0
-each_at R (n ∷ ns) (m ∷ ms) e (suc i) h = each_at R ns ms e.1 i (le_of_suc-le-suc h)
+each_at R ns ms e i h = AllZip-get_or R ns ms i nowhere nowhere e h
 
 pub length_climb : (f : Part → Node → Node) (n : Node) (gs : List Part) → length (climb f n gs) ≡ length gs
 length_climb f n [] = refl

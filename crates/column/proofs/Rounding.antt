@@ -1,12 +1,14 @@
 -- Division rounded down and up, and the products of the marches.
 use Rattle.std.proofs.Common.{ℕ, ◌+◌, ◌-◌, ◌*◌, ◌/◌, ◌<◌, ◌≤◌, le_trans, mul-le-mul_right, div-lt_iff_lt-mul, mul-le-mul_left, le-div_iff_mul-le, div-mul-le_self, arith}
 use native.Mathlib.Nat.{lt-div-mul-add, le_of_mul-le-mul_left}
+use Rattle.std.proofs.lemmas.Nat.{le-div}
+use Rattle.transfer.specs.Quotients.{div_mono}
 use Rattle.column.specs.Rounding.{ceil}
 use Rattle.column.specs.Case.{raised}
 
 -- a whole number that is at most a fraction is at most its floor
 pub floor_least : (k s d : ℕ) → 0 < k → k * s ≤ d → s ≤ d / k
-floor_least k s d p h = (le-div_iff_mul-le p).1 (omega arith)
+floor_least k s d p h = le-div s d k p (omega arith)
 
 -- .. and at least its ceiling where it is at least the fraction
 pub ceil_most : (k s d : ℕ) → 0 < k → d ≤ k * s → ceil d k ≤ s
@@ -21,7 +23,7 @@ ceil_reaches a k p =
     omega arith
 
 pub floor_mono : (k a b : ℕ) → 0 < k → a ≤ b → a / k ≤ b / k
-floor_mono k a b p h = (le-div_iff_mul-le p).1 (le_trans (div-mul-le_self a k) h)
+floor_mono k a b p h = div_mono a b k h
 
 pub ceil_mono : (k a b : ℕ) → 0 < k → a ≤ b → ceil a k ≤ ceil b k
 ceil_mono k a b p h = floor_mono k (a + (k - 1)) (b + (k - 1)) p (omega arith)
@@ -48,5 +50,3 @@ lower_loaded k a v u M N N' hM hv ht = omega (arith, mul-le-mul_left k (mul-le-m
 pub upper_loaded : (k a v u M N N' : ℕ) → N ≤ k * M → u ≤ v → N' ≤ N + k * (a * u) → N' ≤ k * (M + a * v)
 upper_loaded k a v u M N N' hM hv ht = omega (arith, mul-le-mul_left k (mul-le-mul_left a hv))
 
-pub ceil_self : (k a : ℕ) → 0 < k → ceil a k ≤ a
-ceil_self k a p = ceil_most k a a p (omega (arith, mul-le-mul_right a p))

@@ -6,7 +6,6 @@ ghost use Rattle.std.proofs.Common.{rules};
 
 use crate::asked::Asked;
 use crate::rule::{Asking, FrictionRule};
-use crate::tolerance::Tolerance;
 use terms::soil::Soil;
 
 // kPa: from here on the friction is greatest.
@@ -37,9 +36,9 @@ fn friction_at(pressure: u64) -> u64
 pub struct ConePressuremeter;
 
 impl FrictionRule for ConePressuremeter {
-    const TOLERANCE: Tolerance = Tolerance { pascals: 1 };
+    const TOLERANCE: u64 = 1;
 
-    ghost tolerance = { 1 };
+    ghost TOLERANCE = { 1 };
 
     ghost fraction = { λ r. cone_fraction };
 
@@ -52,10 +51,6 @@ impl FrictionRule for ConePressuremeter {
     ghost beyond = { Prim.search rules };
 
     ghost within = { Prim.search rules };
-
-    fn tolerance_in_pascals() -> u64 {
-        Self::TOLERANCE.pascals
-    }
 
     fn ask(&self, asking: Asking) -> Option<u64> {
         let asked = Asked::new(asking)?;

@@ -7,4 +7,3 @@ pub mod pressuremeter;
 pub mod rule;
 #[cfg(test)]
 mod tests;
-pub mod tolerance;

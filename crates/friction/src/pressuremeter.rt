@@ -9,7 +9,6 @@ ghost use Rattle.std.proofs.Common.{rules};
 
 use crate::asked::Asked;
 use crate::rule::{Asking, FrictionRule};
-use crate::tolerance::Tolerance;
 use terms::soil::Soil;
 
 // W is the sum of u^k/k! for k from 0 to this one.
@@ -130,9 +129,9 @@ fn rounded_down(amount: u64, h: u128) -> u64
 pub struct Pressuremeter;
 
 impl FrictionRule for Pressuremeter {
-    const TOLERANCE: Tolerance = Tolerance { pascals: 10 };
+    const TOLERANCE: u64 = 10;
 
-    ghost tolerance = { 10 };
+    ghost TOLERANCE = { 10 };
 
     ghost fraction = { λ r. pressuremeter_fraction last_term };
 
@@ -145,10 +144,6 @@ impl FrictionRule for Pressuremeter {
     ghost beyond = { Prim.search rules };
 
     ghost within = { λ r. pressuremeter_within };
-
-    fn tolerance_in_pascals() -> u64 {
-        Self::TOLERANCE.pascals
-    }
 
     // Any answer inside the tolerance is right; docs/METHOD.md says which one this is.
     #[tactic(auto, using(crate::specs::Tables::pressuremeter_within))]

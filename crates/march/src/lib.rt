@@ -26,12 +26,7 @@ pub enum Side {
 pub fn march<L: TransferLaw>(law: &L, shaft: &Shaft, side: Side, s: u64) -> Node
     ensures { result ≡ head_by side (case_under (L.curve law.now) shaft.now) (min s (tip_range (body_of shaft.now))) }
 {
-    let climb = Climb {
-        law,
-        body: shaft.body(),
-        side,
-        step: shaft.step(),
-    };
+    let climb = Climb { law, shaft, side };
     let start = s.min(shaft.tip_range());
     let mut node = climb.tip(start);
     for part in shaft.parts() {

@@ -61,7 +61,7 @@ pub fn judge<R: FrictionRule>(
     pile: &Pile,
     question: &Question,
 ) -> Result<Judgement, Refusal>
-    ensures { Answers (or_else (question_flaw question.now) (site_refusal (R.FrictionRule.answer rule.now) (strata ground.now) (numbers_of pile.now))) (JudgedRightly R.FrictionRule.tolerance (R.FrictionRule.fraction rule.now) (R.FrictionRule.answer rule.now) (strata ground.now) (numbers_of pile.now) question.now) result }
+    ensures { Answers (or_else (question_flaw question.now) (site_refusal (R.FrictionRule.answer rule.now) (strata ground.now) (numbers_of pile.now))) (JudgedRightly R.FrictionRule.TOLERANCE (R.FrictionRule.fraction rule.now) (R.FrictionRule.answer rule.now) (strata ground.now) (numbers_of pile.now) question.now) result }
 {
     check_question(question)?;
     let footing = Footing::new(ground, pile)?;

@@ -11,7 +11,7 @@ const ROUNDING: u64 = 1;
 
 // (tolerance + 1)·P·D + A, in µN: the shaft's part by the rule's own constant, and 1 Pa under the tip for rounding qb.
 pub fn margin<R: FrictionRule>(pile: &Pile) -> u64
-    ensures { result ≡ margin_of R.FrictionRule.tolerance (numbers_of pile.now) }
+    ensures { result ≡ margin_of R.FrictionRule.TOLERANCE (numbers_of pile.now) }
 {
     let numbers = pile.numbers();
     (R::tolerance_in_pascals() + ROUNDING) * numbers.perimeter * numbers.length + numbers.tip_area

@@ -17,7 +17,7 @@ use Rattle.story.proofs.Splits.{join, told_one, leaves, placed, lived}
 
 -- a study with the same rule means the same
 pub same_meaning : {R L : Type 0} (rule : Ghosts R) (s t : Study R L) → rule_of t ≡ rule_of s → meaning rule t ≡ meaning rule s
-same_meaning rule s t e = ap (λ r. record { tolerance = rule.tolerance; fraction = rule.fraction r; answer = rule.answer r }) e
+same_meaning rule s t e = ap (λ r. record { tolerance = rule.TOLERANCE; fraction = rule.fraction r; answer = rule.answer r }) e
 
 pub told_more : (m k : Meaning) → k ≡ m → (first s t : Site) (calls : List Call) (answers : List Answer) (i : ℕ) (d call : Call) (a : Answer) → call ≡ get_or calls i d → i < length calls → i < length answers
     → Told m first (map plain (take i calls)) (take i answers) s → Step k s (plain call) a t

@@ -22,7 +22,7 @@ module _ {R L : Type 0} where
 
   -- the meaning of the study's rule, from the members of the rule's interface
   abbrev pub meaning : Ghosts R → Study R L → Meaning
-  meaning rule s = record { tolerance = rule.tolerance; fraction = rule.fraction s.rule; answer = rule.answer s.rule }
+  meaning rule s = record { tolerance = rule.TOLERANCE; fraction = rule.fraction s.rule; answer = rule.answer s.rule }
 
   -- a call leaves the rule and the law as they are
   abbrev pub Kept : Study R L → Study R L → Type 0

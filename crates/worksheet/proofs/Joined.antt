@@ -47,7 +47,7 @@ cut_join a b (x ∷ xs) ys w (rest, l, c) k = by_cut l.cut (λ v. cut_join rest 
     )
     by_cut (inr e) go = absurd (not_whole x (omega (arith, l.some, ap length e.0)) l.solid (subst (λ (t : List ℕ). WholeLines t) e.0 w))
 
-module _ {R L : Type 0} (rule : Ghosts R) (within : (r : R) (soil category p : ℕ) → Agrees rule.tolerance (rule.fraction r soil category p) (rule.answer r soil category p)) where
+module _ {R L : Type 0} (rule : Ghosts R) (within : (r : R) (soil category p : ℕ) → Agrees rule.TOLERANCE (rule.fraction r soil category p) (rule.answer r soil category p)) where
   pub pieces_join : PiecesJoin {R = R} {L = L} (meaning rule)
   pieces_join s u t a b old mid new w p q = record {
     lines = p.lines ++ q.lines;

@@ -26,8 +26,8 @@ replies_join {ys = ys} {ds = ds} {as₂ = as₂} {more = more} (said {line = lin
 replies_join {ys = ys} {ds = ds} {as₂ = as₂} {more = more} (misread {line = line} {lines = lines} {calls = calls} {answers = answers} {out = out} letter refusal h s p) q =
     subst (λ (o : List ℕ). Replies (line ∷ (lines ++ ys)) (calls ++ ds) (answers ++ as₂) o) (sym (append_assoc (answer_text letter (Refused refusal)) out more)) (misread letter refusal h s (replies_join p q))
 
-module _ {R L : Type 0} (rule : Ghosts R) (within : (r : R) (soil category p : ℕ) → Agrees rule.tolerance (rule.fraction r soil category p) (rule.answer r soil category p)) where
-  agrees : (s : Study R L) (soil category p : ℕ) → Agrees rule.tolerance (rule.fraction (rule_of s) soil category p) (rule.answer (rule_of s) soil category p)
+module _ {R L : Type 0} (rule : Ghosts R) (within : (r : R) (soil category p : ℕ) → Agrees rule.TOLERANCE (rule.fraction r soil category p) (rule.answer r soil category p)) where
+  agrees : (s : Study R L) (soil category p : ℕ) → Agrees rule.TOLERANCE (rule.fraction (rule_of s) soil category p) (rule.answer (rule_of s) soil category p)
   agrees s = within (rule_of s)
 
   nothing_worked : (s : Study R L) (old : List ℕ) → Works (meaning rule) s s [] old old

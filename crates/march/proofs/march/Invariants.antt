@@ -1,4 +1,5 @@
 use Rattle.std.proofs.Common.{drop}
+use Rattle.shaft.specs.Views.{body_of, step_of}
 use Rattle.march.specs.Curves.{bare}
 use Rattle.march.proofs.Going.{Going}
 use Rattle.march.proofs.march.Given as goal
@@ -6,4 +7,4 @@ use Rattle.march.proofs.march.Given as goal
 abbrev pub invariant-loop-part : goal.invariant-loop-part
 invariant-loop-part g l =
     let climb = l.climb in
-    Going (bare (g.L.TransferLaw.curve climb.law.now) climb.body.now) climb.side climb.step l.start l.part-items (drop l.part-index l.part-items) l.node
+    Going (bare (g.L.TransferLaw.curve climb.law.now) (body_of climb.shaft.now)) climb.side (step_of climb.shaft.now) l.start l.part-items (drop l.part-index l.part-items) l.node

@@ -1,21 +1,19 @@
 // Making the shaft of a pile in a ground.
-ghost use Rattle.std.specs.Prelude.{◌≡◌, ◌≤◌, reverse, length};
+ghost use Rattle.std.specs.Prelude.{◌≡◌};
 ghost use Rattle.terms.specs.Chains.{Answers};
-ghost use Rattle.terms.specs.Limits.{max_layers};
 ghost use Rattle.ground.specs.Table.{strata};
 ghost use Rattle.pile.specs.Driven.{numbers_of};
 ghost use Rattle.pile.specs.FrictionList.{friction_list};
 ghost use Rattle.pile.specs.Footing.{layers_under, numbers_on};
 ghost use Rattle.pile.specs.Shaft.{parts_above};
 ghost use Rattle.shaft.specs.Room.{Body, Contact};
-ghost use Rattle.shaft.specs.Attached.{attached, body_on, strain_refusal, shaft_refusal};
+ghost use Rattle.shaft.specs.Attached.{attached, parts_up, body_on, strain_refusal, shaft_refusal};
 ghost use Rattle.shaft.specs.Standing.{StandsOn};
 ghost use Rattle.shaft.specs.Views.{body_of, step_of, parts_of};
 
 use crate::held::Shaft;
 use arrayvec::ArrayVec;
 use column::{Part, PileBody};
-use ground::layer::Layer;
 use ground::table::Ground;
 use pile::driven::Pile;
 use pile::footing::Footing;
@@ -28,13 +26,12 @@ use terms::refusal::Refusal;
 const MOST_STRAIN: u64 = 10_000;
 
 // The parts above the tip that have a friction, the uppermost first.
-fn attach(layers: &[Layer], tip: u64, frictions: &[u64]) -> ArrayVec<Part, MAX_LAYERS>
-    requires { length layers.now ≤ max_layers }
-    ensures { result.items ≡ attached (parts_above tip layers.now) frictions.now }
+fn attach(footing: &Footing, frictions: &Frictions) -> ArrayVec<Part, MAX_LAYERS>
+    ensures { result.items ≡ attached (parts_above (numbers_on footing.now).length (layers_under footing.now)) (friction_list frictions.now) }
 {
     let mut parts = ArrayVec::new();
-    let mut left = tip;
-    for (layer, friction) in layers.iter().zip(frictions) {
+    let mut left = footing.numbers().length;
+    for (layer, friction) in footing.layers().iter().zip(frictions.values()) {
         if left == 0 {
             break;
         }
@@ -50,11 +47,10 @@ fn attach(layers: &[Layer], tip: u64, frictions: &[u64]) -> ArrayVec<Part, MAX_L
 }
 
 // The same, the lowest first.
-fn attach_up(layers: &[Layer], tip: u64, frictions: &[u64]) -> ArrayVec<Part, MAX_LAYERS>
-    requires { length layers.now ≤ max_layers }
-    ensures { result.items ≡ reverse (attached (parts_above tip layers.now) frictions.now) }
+fn attach_up(footing: &Footing, frictions: &Frictions) -> ArrayVec<Part, MAX_LAYERS>
+    ensures { result.items ≡ parts_up (layers_under footing.now) (numbers_on footing.now) (friction_list frictions.now) }
 {
-    let mut parts = attach(layers, tip, frictions);
+    let mut parts = attach(footing, frictions);
     parts.as_mut_slice().reverse();
     parts
 }
@@ -91,7 +87,7 @@ impl Shaft {
         Ok(Shaft {
             body,
             step: numbers.step,
-            parts: attach_up(footing.layers(), numbers.length, frictions.values()),
+            parts: attach_up(footing, frictions),
         })
     }
 
