@@ -70,7 +70,7 @@ pub enum Call {
     Judge(Question),
 }
 
-// One of three lines of a sheet; a `Result` round what was granted would need an enum of that beside it.
+// One of three lines of a sheet. A `Result` would nest what was granted, and a `None` in it would not say that a change was made.
 #[derive(Clone, Copy, PartialEq, Eq, Debug)]
 pub enum Answer {
     // A change was made.

@@ -3,7 +3,7 @@
 
 ghost use Rattle.column.specs.Bracket.{BracketStands, EndsRise};
 
-// What a column needs to know of the pile and of the layer that bears it. Any numbers: the theorem of the bracket is about all.
+// What a column needs to know of the pile and of the layer that bears it. Any numbers, the soil among them: the theorem of the bracket is about all.
 #[derive(Clone, Copy, PartialEq, Eq, Debug)]
 pub struct PileBody {
     // A, mm²

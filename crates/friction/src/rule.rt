@@ -5,7 +5,7 @@ ghost use Rattle.friction.specs.Rule.{Agrees, beyond_limits};
 
 use terms::limits::{CATEGORY, PRESSURE, SOIL};
 
-// What a rule is asked about a layer and a pile; any three numbers.
+// What a rule is asked about a layer and a pile. Any numbers, soil and category among them: beyond the limits it has no answer.
 #[derive(Clone, Copy, PartialEq, Eq, Debug)]
 pub struct Asking {
     pub soil: u64,

@@ -6,7 +6,7 @@ ghost use Rattle.ground.specs.Layers.{layer_flaw};
 use terms::limits::{CEILING, MODULUS, PRESSURE, SOIL, THICKNESS};
 use terms::refusal::Refusal;
 
-// Any five numbers; a ground takes only those inside their limits.
+// Any five numbers, the soil among them: a ground takes only those inside their limits, and its refusals are about all others.
 #[derive(Clone, Copy, PartialEq, Eq, Debug)]
 pub struct Layer {
     // 1 clay or silt, 2 sand or gravel, 3 chalk, 4 marl, 5 weathered rock
@@ -50,7 +50,7 @@ impl Layer {
     }
 }
 
-// A new pressure and modulus for a layer; any three numbers.
+// A new pressure and modulus for a layer; again any numbers.
 #[derive(Clone, Copy, PartialEq, Eq, Debug)]
 pub struct Amendment {
     // of the layer, counted from 0

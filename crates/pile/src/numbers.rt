@@ -9,7 +9,7 @@ use terms::limits::{
 };
 use terms::refusal::Refusal;
 
-// Any ten numbers; a pile has only those inside their limits.
+// Any ten numbers, category and mark among them: a pile has only those inside their limits, and its refusals are about all others.
 #[derive(Clone, Copy, PartialEq, Eq, Debug)]
 pub struct PileNumbers {
     // category of installation, 1 to 20

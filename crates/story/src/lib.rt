@@ -27,7 +27,8 @@ pub fn perform<R: FrictionRule, L: TransferLaw>(study: &mut Study<R, L>, call: &
     }
 }
 
-// Every call for whose answer there is a place, in order; how many they are.
+// Every call for whose answer there is a place, in order; how many they are. The places are the caller's, so that no memory is asked for
+// and a call cannot go unanswered.
 pub fn tell<R: FrictionRule, L: TransferLaw>(
     study: &mut Study<R, L>,
     calls: &[Call],

@@ -16,7 +16,7 @@ pub enum Place {
     Tip,
 }
 
-// What meets there. Any numbers are allowed.
+// What meets there. Any numbers, the soil among them: a law takes the nearest inside.
 #[derive(Clone, Copy, PartialEq, Eq, Debug)]
 pub struct SoilContact {
     pub soil: u64,

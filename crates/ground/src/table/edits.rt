@@ -101,6 +101,7 @@ impl Ground {
     pub fn lift(&mut self) -> Result<(), Refusal>
         ensures { Changes strata (lift_refusal (strata self.old)) self.old (lifted (strata self.old)) result self.new }
     {
+        // Tested first, since an empty `pop` does not promise that the whole ground is as it was.
         if self.layers.is_empty() {
             return Err(Refusal::NoLayerToLift);
         }
