@@ -1,10 +1,7 @@
 -- The slices of a part, one after another.
-use Rattle.std.proofs.Common.{◌≡◌, ℕ, zero, suc, ◌+◌, ◌-◌, ◌/◌, ◌<◌, min, true, not, ◌&&◌, List, [], ◌∷◌, ◌++◌, length, get_or, sym, refl, ap, ◌∙◌, le_of_suc-le-suc, not-suc-le-zero, add-one, arith}
+use Rattle.std.proofs.Common.{◌≡◌, ℕ, zero, suc, ◌+◌, ◌-◌, ◌/◌, ◌<◌, min, true, List, [], ◌∷◌, ◌++◌, length, get_or, sym, refl, ap, ◌∙◌, le_of_suc-le-suc, not-suc-le-zero, add-one, arith}
 use native.Mathlib.Nat.{add-div_right, div-eq_of_lt}
 use native.Mathlib.Decide.{dec_le}
-use Rattle.std.proofs.lemmas.Bool.{and_parts}
-use Rattle.terms.specs.declared.limits.Limits.{Limits}
-use Rattle.terms.specs.Limits.{Within, outside, soil_limits, modulus_limits, unit_resistance_limits}
 use Rattle.column.specs.declared.Part.{Part}
 use Rattle.column.specs.declared.Node.{Node}
 use Rattle.column.specs.Rounding.{ceil}
@@ -46,18 +43,8 @@ no_part = record { height = 0; soil = 0; modulus = 0; friction = 0 }
 abbrev pub at : List Part → ℕ → Part
 at ps i = get_or ps i no_part
 
-inside : (l : Limits) (x : ℕ) → not (outside l x) ≡ true → Within l x
-inside l x h = grind arith
-
 contact : (p : Part) (ps : List Part) → all_contacts (p ∷ ps) ≡ true → Contact p.soil p.modulus p.friction × (all_contacts ps ≡ true)
-contact p ps h =
-    let a = not (outside soil_limits p.soil) in
-    let b = not (outside modulus_limits p.modulus) in
-    let d = not (outside unit_resistance_limits p.friction) in
-    let all = and_parts (a && b && d) (all_contacts ps) h in
-    let last = and_parts (a && b) d all.0 in
-    let two = and_parts a b last.0 in
-    ((inside soil_limits p.soil two.0, inside modulus_limits p.modulus two.1, (inside unit_resistance_limits p.friction last.1).1), all.1)
+contact p ps h = grind arith
 
 pub contact_at : (ps : List Part) (i : ℕ) → i < length ps → all_contacts ps ≡ true → Contact (at ps i).soil (at ps i).modulus (at ps i).friction
 contact_at [] i h ks = absurd (not-suc-le-zero h)

@@ -1,13 +1,9 @@
--- A march over what a shaft shows of itself, against the march over the shaft.
-use Rattle.std.proofs.Common.{◌≡◌, ℕ, ◌≤◌, min, List, arith}
+-- What a shaft keeps of its room, said of the parts that it shows.
+use Rattle.std.proofs.Common.{◌≡◌, List}
 use Rattle.column.specs.declared.Part.{Part}
-use Rattle.column.specs.declared.PileBody.{PileBody}
-use Rattle.column.specs.Tips.{tip_range}
+use Rattle.shaft.specs.declared.held.Shaft.{Shaft}
 use Rattle.shaft.specs.Room.{Room}
+use Rattle.shaft.specs.Views.{body_of, step_of, parts_of}
 
-pub room_shown : {b : PileBody} {step t : ℕ} {parts ps : List Part} → t ≡ step → ps ≡ parts → Room b step parts → Room b t ps
-room_shown es ep room = rw (es, ep) room
-
--- a start that was taken to the tip's range
-pub start_within : {b body : PileBody} {T start : ℕ} (s : ℕ) → b ≡ body → T ≡ tip_range body → start ≡ min s T → start ≤ tip_range b
-start_within s eb et es = rw (eb, es, et) (omega arith)
+pub room_shown : (s : Shaft) {ps : List Part} → ps ≡ parts_of s → Room (body_of s) (step_of s) ps
+room_shown s e = rw e (record { body = s.bodied; tip = s.borne; shaft = s.met; step_fits = s.stepped; deep = s.deep; firm = s.firm })

@@ -8,34 +8,32 @@ ghost use Rattle.march.specs.Sides.{tip_by, step_by, head_over};
 ghost use Rattle.march.specs.Ahead.{Ahead};
 ghost use Rattle.march.specs.Curves.{bare};
 
-use crate::Side;
 use crate::slice::{Slice, raise};
+use crate::{Bedded, Side};
 use column::{Node, Part};
-use shaft::held::Shaft;
 use transfer::{Place, SoilContact, TransferLaw};
 
-// By which law, up which pile, which of the two marches goes, in slices of `step` mm.
+// Up which shaft, in which soil, which of the two marches goes, in slices of `step` mm.
 #[derive(Drop)]
 pub(super) struct Climb<'a, L> {
-    pub(super) law: &'a L,
-    pub(super) shaft: &'a Shaft,
+    pub(super) bedded: &'a Bedded<'a, L>,
     pub(super) side: Side,
 }
 
 impl<'a, L: TransferLaw> Climb<'a, L> {
     // Where it starts.
     pub(super) fn tip(&self, s: u64) -> Node
-        requires { s ≤ tip_range (body_of self.now.shaft.now) }
-        ensures { result ≡ tip_by self.now.side (bare (L.curve self.now.law.now) (body_of self.now.shaft.now)) s }
+        requires { s ≤ tip_range (body_of self.now.bedded.now.shaft.now) }
+        ensures { result ≡ tip_by self.now.side (bare (L.curve self.now.bedded.now.law.now) (body_of self.now.bedded.now.shaft.now)) s }
     {
-        let body = self.shaft.body();
+        let body = self.bedded.shaft.body();
         let contact = SoilContact {
             soil: body.tip_soil,
             modulus: body.tip_modulus,
             resistance: body.tip_resistance,
             width: body.diameter,
         };
-        let v = self.law.mobilised(Place::Tip, contact, s);
+        let v = self.bedded.law.mobilised(Place::Tip, contact, s);
         let met = match self.side {
             Side::Lower => v,
             Side::Upper => raise(v, body.tip_resistance),
@@ -48,20 +46,21 @@ impl<'a, L: TransferLaw> Climb<'a, L> {
 
     // From the node under a part to the one on top of it.
     pub(super) fn over(&self, part: &Part, under: Node) -> Node
-        requires ahead { Ahead (body_of self.now.shaft.now) under part.now.height (part_resistance (body_of self.now.shaft.now) part.now) }
+        requires ahead { Ahead (body_of self.now.bedded.now.shaft.now) under part.now.height (part_resistance (body_of self.now.bedded.now.shaft.now) part.now) }
         requires contact { Contact part.now.soil part.now.modulus part.now.friction }
-        ensures { result ≡ head_over (step_by self.now.side (bare (L.curve self.now.law.now) (body_of self.now.shaft.now))) under (cut (step_of self.now.shaft.now) part.now) }
+        ensures { result ≡ head_over (step_by self.now.side (bare (L.curve self.now.bedded.now.law.now) (body_of self.now.bedded.now.shaft.now))) under (cut (step_of self.now.bedded.now.shaft.now) part.now) }
     {
         let mut node = under;
         let mut left = part.height;
+        // It cuts a height into slices and counts no index; `step_by` would need a cast.
         while left > 0 {
-            let height = self.shaft.step().min(left);
+            let height = self.bedded.shaft.step().min(left);
             let slice = Slice {
-                body: self.shaft.body(),
+                body: self.bedded.shaft.body(),
                 part: Part { height, ..*part },
                 under: node,
             };
-            node = slice.over(self.law, self.side);
+            node = slice.over(self.bedded.law, self.side);
             left -= height;
         }
         node

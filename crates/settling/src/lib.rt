@@ -9,14 +9,14 @@ ghost use Rattle.pile.specs.Driven.{numbers_of};
 ghost use Rattle.column.specs.Tips.{tip_range, no_march_above};
 ghost use Rattle.resistance.specs.Judging.{load_flaw, micronewtons};
 ghost use Rattle.shaft.specs.Views.{body_of};
-ghost use Rattle.march.specs.Curves.{case_under};
+ghost use Rattle.march.specs.Curves.{case_of_bedded};
 ghost use Rattle.settling.specs.Refused.{settling_refusal};
 ghost use Rattle.settling.specs.Settles.{Settles, SettledRightly};
 
 use calls::{Bracket, Settlement};
 use friction::rule::FrictionRule;
 use ground::table::Ground;
-use march::{Side, march};
+use march::{Bedded, Side};
 use pile::driven::Pile;
 use pile::footing::Footing;
 use resistance::fetching::fetch;
@@ -27,15 +27,15 @@ use tips::{lower_tip, upper_tip};
 use transfer::TransferLaw;
 
 // The brackets of tip and head under a load in kN, or none where no lower march ends above it.
-fn settlement<L: TransferLaw>(law: &L, shaft: &Shaft, load: u64) -> Option<Settlement>
+fn settlement<L: TransferLaw>(bedded: &Bedded<L>, load: u64) -> Option<Settlement>
     requires { load_flaw load ≡ None }
-    ensures { MatchOption result (no_march_above (case_under (L.curve law.now) shaft.now) (tip_range (body_of shaft.now)) (micronewtons load) ≡ true) (λ x. Settles (case_under (L.curve law.now) shaft.now) (tip_range (body_of shaft.now)) (micronewtons load) x) }
+    ensures { MatchOption result (no_march_above (case_of_bedded L.curve bedded.now) (tip_range (body_of bedded.now.shaft.now)) (micronewtons load) ≡ true) (λ x. Settles (case_of_bedded L.curve bedded.now) (tip_range (body_of bedded.now.shaft.now)) (micronewtons load) x) }
 {
     let force = load * MICRONEWTONS;
-    let upper = upper_tip(law, shaft, force)?;
-    let lower = lower_tip(law, shaft, force);
-    let lowest = march(law, shaft, Side::Lower, lower);
-    let highest = march(law, shaft, Side::Upper, upper);
+    let upper = upper_tip(bedded, force)?;
+    let lower = lower_tip(bedded, force);
+    let lowest = bedded.march(Side::Lower, lower);
+    let highest = bedded.march(Side::Upper, upper);
     Some(Settlement {
         tip: Bracket { lower, upper },
         head: Bracket {
@@ -60,5 +60,6 @@ pub fn settle<R: FrictionRule, L: TransferLaw>(
     let footing = Footing::new(ground, pile)?;
     let frictions = fetch(rule, ground, pile)?;
     let shaft = Shaft::on(&footing, &frictions)?;
-    settlement(law, &shaft, load).ok_or(Refusal::LoadNotCarried)
+    let bedded = Bedded { law, shaft: &shaft };
+    settlement(&bedded, load).ok_or(Refusal::LoadNotCarried)
 }

@@ -11,8 +11,8 @@ use Rattle.column.specs.Marches.{lower_end, upper_end}
 use Rattle.column.specs.Tips.{IsLowerTip, IsUpperTip, no_march_above}
 use Rattle.column.proofs.Rising.{ends_rise}
 use Rattle.column.proofs.Nowhere.{none_above}
-use Rattle.shaft.specs.declared.held.Shaft.{Shaft}
-use Rattle.march.specs.Curves.{case_under}
+use Rattle.march.specs.Curves.{case_of_bedded}
+use Rattle.march.specs.declared.Bedded.{Bedded}
 use Rattle.march.specs.declared.Side.{Side}
 use Rattle.march.specs.declared.Side.TheVariants.{Lower, Upper}
 use Rattle.march.specs.Sides.{head_by}
@@ -29,9 +29,9 @@ pub rises : (side : Side) {c : Case} → Sound c → (s t : ℕ) → s ≤ t →
 rises Lower {c} ok s t h = (ends_rise c ok s t h).0
 rises Upper {c} ok s t h = (ends_rise c ok s t h).1
 
--- a shaft under a law
-pub sound : {curve : Place → Curve} (x : Shaft) → ((place : Place) → Transfers (curve place)) → Sound (case_under curve x)
-sound x keeps = record { shaft = keeps place.Shaft; tip = keeps place.Tip; stiff = x.bodied.0 }
+-- a shaft in its soil
+pub sound : {L : Type 0} {curve : L → Place → Curve} (x : Bedded L) → ((law : L) (place : Place) → Transfers (curve law place)) → Sound (case_of_bedded curve x)
+sound x keeps = record { shaft = keeps x.law.now place.Shaft; tip = keeps x.law.now place.Tip; stiff = x.shaft.now.bodied.0 }
 
 -- the force that a march from inside the range ends with
 pub ended : (side : Side) (c : Case) (T s : ℕ) (n : Node) → n ≡ head_by side c (min s T) → s ≤ T → n.force ≡ end_by side c s

@@ -8,7 +8,7 @@ invariant_of-slice-clause-ahead g c = rw c.body.ensures.value (ahead_first c.arg
 
 pub loop-left-preserved : goal.loop-left-preserved
 loop-left-preserved g c =
-    let law = c.args.self.now.law.now in
+    let law = c.args.self.now.bedded.now.law.now in
     along_over (g.met.L.TransferLaw.keeps law place.Shaft).capped c.args.self.now.side c.args.part.now c.min-height.result (omega arith) c.loop-left-test.true (c.min-height.ensures ∙ ap (λ x. min x c.loop-left.left) c.step.ensures) (rw c.body.ensures.value at c.over-node.ensures) c.loop-left.invariant
 
 pub returns : goal.returns
