@@ -11,6 +11,16 @@ use Rattle.column.specs.Balanced.{SliceBalance, ShaftBalance, Balanced}
 use Rattle.column.proofs.Nodewise.{AtLeast, AtMost, Each, Every, every_last}
 use Rattle.column.proofs.Rounding.{floor_least, ceil_most, raised_mono, lower_moved, upper_moved, lower_loaded, upper_loaded}
 
+-- what each step of a march keeps holds at each node
+along_shaft : (c : Case) (k : ℕ) (R : Node → Node → Type 0) (f : Part → Node → Node) → ((g : Part) (a n m : Node) → R a n → SliceBalance c k g n m → R (f g a) m)
+    → (a n : Node) (gs : List Part) (ms : List Node) → R a n → ShaftBalance c k n gs ms → Each R (climb f a gs) ms
+along_shaft c k R f next a n [] [] h b = tt
+along_shaft c k R f next a n [] (m ∷ ms) h b = absurd b
+along_shaft c k R f next a n (g ∷ gs) [] h b = absurd b
+along_shaft c k R f next a n (g ∷ gs) (m ∷ ms) h b =
+    let here = next g a n m h b.0 in
+    (here, along_shaft c k R f next (f g a) m gs ms here b.1)
+
 module _ (c : Case) (ok : Sound c) where
   pub shaft_v_mono : (g : Part) (s t : ℕ) → s ≤ t → shaft_v c g s ≤ shaft_v c g t
   shaft_v_mono g s t h = ok.shaft.rising g.soil g.modulus g.friction c.body.diameter s t h
@@ -32,14 +42,6 @@ module _ (c : Case) (ok : Sound c) where
           (shaft_v_mono g low.displacement (n.displacement / k) (floor_least k low.displacement n.displacement pos h.displacement)) b.force_least;
     }
 
-    pub lower_shaft : (low n : Node) (gs : List Part) (ms : List Node) → AtLeast k low n → ShaftBalance c k n gs ms → Each (AtLeast k) (climb (lower_step c) low gs) ms
-    lower_shaft low n [] [] h b = tt
-    lower_shaft low n [] (m ∷ ms) h b = absurd b
-    lower_shaft low n (g ∷ gs) [] h b = absurd b
-    lower_shaft low n (g ∷ gs) (m ∷ ms) h b =
-        let next = lower_next g low n m h b.0 in
-        (next, lower_shaft (lower_step c g low) m gs ms next b.1)
-
     upper_next : (g : Part) (high n m : Node) → AtMost k high n → SliceBalance c k g n m → AtMost k (upper_step c g high) m
     upper_next g high n m h b =
         let S = c.body.stiffness in
@@ -56,14 +58,6 @@ module _ (c : Case) (ok : Sound c) where
           force = force;
         }
 
-    pub upper_shaft : (high n : Node) (gs : List Part) (ms : List Node) → AtMost k high n → ShaftBalance c k n gs ms → Each (AtMost k) (climb (upper_step c) high gs) ms
-    upper_shaft high n [] [] h b = tt
-    upper_shaft high n [] (m ∷ ms) h b = absurd b
-    upper_shaft high n (g ∷ gs) [] h b = absurd b
-    upper_shaft high n (g ∷ gs) (m ∷ ms) h b =
-        let next = upper_next g high n m h b.0 in
-        (next, upper_shaft (upper_step c g high) m gs ms next b.1)
-
   -- the two dominances
   pub above_lower : (k s : ℕ) (x : Nodes) → Balanced c k x → k * s ≤ x.tip.displacement → Every (AtLeast k) (lower_march c s) x
   above_lower k s x b h =
@@ -72,7 +66,7 @@ module _ (c : Case) (ok : Sound c) where
         displacement = h;
         force = le_trans (mul-le-mul_left k (mul-le-mul_left c.body.tip_area (tip_v_mono s (d / k) (floor_least k s d b.scale h)))) b.tip.at_least;
       } in
-      (at, lower_shaft k b.scale (lower_tip c s) x.tip c.slices x.above at b.shaft)
+      (at, along_shaft c k (AtLeast k) (lower_step c) (lower_next k b.scale) (lower_tip c s) x.tip c.slices x.above at b.shaft)
 
   pub below_upper : (k s : ℕ) (x : Nodes) → Balanced c k x → x.tip.displacement ≤ k * s → Every (AtMost k) (upper_march c s) x
   below_upper k s x b h =
@@ -81,7 +75,7 @@ module _ (c : Case) (ok : Sound c) where
         displacement = h;
         force = le_trans b.tip.at_most (mul-le-mul_left k (mul-le-mul_left c.body.tip_area (tip_w_mono (ceil d k) s (ceil_most k s d b.scale h))));
       } in
-      (at, upper_shaft k b.scale (upper_tip c s) x.tip c.slices x.above at b.shaft)
+      (at, along_shaft c k (AtMost k) (upper_step c) (upper_next k b.scale) (upper_tip c s) x.tip c.slices x.above at b.shaft)
 
   -- .. at the head
   pub ends_above : (k s : ℕ) (x : Nodes) → Balanced c k x → k * s ≤ x.tip.displacement → k * lower_end c s ≤ end_force x

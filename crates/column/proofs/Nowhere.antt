@@ -1,10 +1,10 @@
 -- A test that holds nowhere in 0 to n, and no lower march that ends above a load.
 use Rattle.std.proofs.Common.{◌≡◌, ℕ, zero, suc, ◌<◌, ◌≤◌, Bool, true, false, not, ◌&&◌, ltb, refl, subst, arith}
 use native.Mathlib.Decide.{dec_le}
-use Rattle.std.proofs.lemmas.Bool.{and_parts, ltb-true, lt-ltb, le-ltb}
+use Rattle.std.proofs.lemmas.Bool.{and_parts, lt-ltb, le-ltb}
 use Rattle.column.specs.Case.{Case}
 use Rattle.column.specs.Marches.{lower_end}
-use Rattle.column.specs.Tips.{nowhere_to, no_march_above, MarchAbove}
+use Rattle.column.specs.Tips.{nowhere_to, no_march_above}
 
 both : (a b : Bool) → a ≡ false → b ≡ true → (not a && b) ≡ true
 both false true e h = refl

@@ -13,16 +13,17 @@ record Up (n m : Node) : Type 0 where
   displacement : n.displacement ≤ m.displacement
   force : n.force ≤ m.force
 
+-- where no step lowers a node, no climb lowers the head
+last_up : (f : Part → Node → Node) → ((g : Part) (n m : Node) → Up n m → Up (f g n) (f g m)) → (gs : List Part) (n m : Node) → Up n m → Up (last n (climb f n gs)) (last m (climb f m gs))
+last_up f up [] n m h = h
+last_up f up (g ∷ gs) n m h = last_up f up gs (f g n) (f g m) (up g n m h)
+
 module _ (c : Case) (ok : Sound c) where
   lower_up : (g : Part) (n m : Node) → Up n m → Up (lower_step c g n) (lower_step c g m)
   lower_up g n m h = record {
     displacement = omega (arith, h.displacement, floor_mono c.body.stiffness (n.force * g.height) (m.force * g.height) ok.stiff (mul-le-mul_right g.height h.force));
     force = omega (arith, h.force, mul-le-mul_left (skin c g) (shaft_v_mono c ok g n.displacement m.displacement h.displacement));
   }
-
-  lower_last : (gs : List Part) (n m : Node) → Up n m → Up (last n (climb (lower_step c) n gs)) (last m (climb (lower_step c) m gs))
-  lower_last [] n m h = h
-  lower_last (g ∷ gs) n m h = lower_last gs (lower_step c g n) (lower_step c g m) (lower_up g n m h)
 
   upper_up : (g : Part) (n m : Node) → Up n m → Up (upper_step c g n) (upper_step c g m)
   upper_up g n m h =
@@ -38,12 +39,8 @@ module _ (c : Case) (ok : Sound c) where
         force = force;
       }
 
-  upper_last : (gs : List Part) (n m : Node) → Up n m → Up (last n (climb (upper_step c) n gs)) (last m (climb (upper_step c) m gs))
-  upper_last [] n m h = h
-  upper_last (g ∷ gs) n m h = upper_last gs (upper_step c g n) (upper_step c g m) (upper_up g n m h)
-
 pub ends_rise : EndsRise
 ends_rise c ok s t h = (
-  (lower_last c ok c.slices (lower_tip c s) (lower_tip c t) (record { displacement = h; force = mul-le-mul_left c.body.tip_area (tip_v_mono c ok s t h) })).force,
-  (upper_last c ok c.slices (upper_tip c s) (upper_tip c t) (record { displacement = h; force = mul-le-mul_left c.body.tip_area (tip_w_mono c ok s t h) })).force,
+  (last_up (lower_step c) (lower_up c ok) c.slices (lower_tip c s) (lower_tip c t) (record { displacement = h; force = mul-le-mul_left c.body.tip_area (tip_v_mono c ok s t h) })).force,
+  (last_up (upper_step c) (upper_up c ok) c.slices (upper_tip c s) (upper_tip c t) (record { displacement = h; force = mul-le-mul_left c.body.tip_area (tip_w_mono c ok s t h) })).force,
 )

@@ -1,5 +1,5 @@
 -- Division rounded down and up, and the products of the marches.
-use Rattle.std.proofs.Common.{ℕ, ◌+◌, ◌-◌, ◌*◌, ◌/◌, ◌<◌, ◌≤◌, le_trans, mul-le-mul_right, div-lt_iff_lt-mul, mul-le-mul_left, le-div_iff_mul-le, div-mul-le_self, arith}
+use Rattle.std.proofs.Common.{ℕ, ◌+◌, ◌-◌, ◌*◌, ◌/◌, ◌<◌, ◌≤◌, mul-le-mul_right, div-lt_iff_lt-mul, mul-le-mul_left, div-mul-le_self, arith}
 use native.Mathlib.Nat.{lt-div-mul-add, le_of_mul-le-mul_left}
 use Rattle.std.proofs.lemmas.Nat.{le-div}
 use Rattle.transfer.specs.Quotients.{div_mono}
@@ -49,4 +49,3 @@ lower_loaded k a v u M N N' hM hv ht = omega (arith, mul-le-mul_left k (mul-le-m
 
 pub upper_loaded : (k a v u M N N' : ℕ) → N ≤ k * M → u ≤ v → N' ≤ N + k * (a * u) → N' ≤ k * (M + a * v)
 upper_loaded k a v u M N N' hM hv ht = omega (arith, mul-le-mul_left k (mul-le-mul_left a hv))
-

@@ -1,5 +1,5 @@
 // The fields of a line.
-ghost use Rattle.std.specs.Prelude.{◌≡◌, ◌≤◌, length, MatchOption, MatchResult};
+ghost use Rattle.std.specs.Prelude.{◌≡◌, ◌≤◌, length, Decides, MatchOption, MatchResult};
 ghost use Rattle.std.specs.Option.{SomeIff};
 ghost use Rattle.std.specs.Str.Parse.{digits_value};
 ghost use Rattle.lines.specs.Fields.{Numeral, UpToSpace, Field, NoField, Reads, Malformed};
@@ -9,19 +9,21 @@ use terms::refusal::Refusal;
 // So that a number fits u64 with room to spare.
 const MOST_DIGITS: usize = 10;
 
+// Whether the bytes are digits and not too many.
+fn is_numeral(text: &[u8]) -> bool
+    ensures { Decides result (Numeral text.now) }
+{
+    !text.is_empty() && text.len() <= MOST_DIGITS && text.iter().all(u8::is_ascii_digit)
+}
+
 // The number that the bytes write, if they are digits and not too many.
 fn number(text: &[u8]) -> Option<u64>
     ensures { SomeIff result (Numeral text.now) (digits_value 10 text.now) }
 {
-    if text.is_empty() || text.len() > MOST_DIGITS {
+    if !is_numeral(text) {
         return None;
     }
-    let mut number = 0;
-    for byte in text {
-        let digit = char::from(*byte).to_digit(10)?;
-        number = number * 10 + u64::from(digit);
-    }
-    Some(number)
+    std::str::from_utf8(text).ok()?.parse().ok()
 }
 
 // How many bytes stand before the first space.

@@ -4,6 +4,7 @@ pub mod Pressure
 pub mod Bearing
 pub mod Tip
 pub mod Shaft
+pub mod Parts
 pub mod Frictions
 pub mod FrictionList
 pub mod Footing

@@ -4,11 +4,11 @@ use Rattle.terms.specs.Limits.{area_limits, unit_resistance_limits, perimeter_li
 use Rattle.ground.specs.declared.layer.Layer.{Layer}
 use Rattle.pile.specs.declared.numbers.PileNumbers.{PileNumbers}
 use Rattle.pile.specs.Tip.{tip_resistance}
+use Rattle.pile.specs.declared.parts.ShaftPart as declared
 
--- the part of a layer that lies above the tip
-pub record ShaftPart : Type 0 where
-  pub height : ℕ
-  pub layer : Layer
+-- the part of a layer that lies above the tip: its height and its layer
+abbrev pub ShaftPart : Type 0
+ShaftPart = declared.ShaftPart
 
 -- the parts above a depth, the uppermost first: every layer whose top is above it, down to it
 abbrev pub parts_above : ℕ → List Layer → List ShaftPart

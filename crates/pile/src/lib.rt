@@ -5,6 +5,7 @@ pub mod driven;
 pub mod footing;
 pub mod frictions;
 pub mod numbers;
+pub mod parts;
 pub mod resistance;
 #[cfg(test)]
 mod tests;

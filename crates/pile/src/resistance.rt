@@ -6,6 +6,7 @@ ghost use Rattle.pile.specs.Footing.{layers_under, numbers_on};
 
 use crate::footing::Footing;
 use crate::frictions::Frictions;
+use crate::parts::Parts;
 
 impl Footing<'_> {
     // Along the shaft: perimeter × height × friction, over the layers above the tip.
@@ -14,12 +15,10 @@ impl Footing<'_> {
         ensures small { result ≤ max_along_shaft }
     {
         let numbers = self.numbers();
-        let mut left = numbers.length;
+        let parts = Parts::above(numbers.length, self.layers());
         let mut sum = 0;
-        for (layer, friction) in self.layers().iter().zip(frictions.values()) {
-            let height = layer.thickness.min(left);
-            sum += numbers.perimeter * height * friction;
-            left -= height;
+        for (part, friction) in parts.zip(frictions.values()) {
+            sum += numbers.perimeter * part.height * friction;
         }
         sum
     }

@@ -3,6 +3,7 @@ use crate::driven::Pile;
 use crate::footing::Footing;
 use crate::frictions::{Frictions, Unfit};
 use crate::numbers::PileNumbers;
+use crate::parts::{Parts, ShaftPart};
 use crate::tip::{Bearing, bearing_layer};
 use ground::layer::Layer;
 use ground::table::Ground;
@@ -266,6 +267,26 @@ fn adds_tip_and_shaft(rt: HostRuntime) -> Result<(), Fail> {
         471_000_000_000
     );
     Ok(())
+}
+
+// Down to a depth inside the second layer, to its top, and to none.
+#[test]
+fn cuts_layers_at_a_depth(rt: HostRuntime) {
+    let layers = [sand(1_800, 500), sand(1_500, 2_000), sand(900, 1_000)];
+    let first = ShaftPart {
+        height: 1_800,
+        layer: sand(1_800, 500),
+    };
+    let second = ShaftPart {
+        height: 200,
+        layer: sand(1_500, 2_000),
+    };
+    let mut parts = Parts::above(2_000, &layers);
+    assert_eq!(rt; parts.next(), Some(first));
+    assert_eq!(rt; parts.next(), Some(second));
+    assert_eq!(rt; parts.next(), None);
+    assert_eq!(rt; Parts::above(1_800, &layers).count(), 1);
+    assert_eq!(rt; Parts::above(0, &layers).count(), 0);
 }
 
 #[test]

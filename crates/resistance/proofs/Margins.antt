@@ -1,5 +1,5 @@
 -- R is within its margin of its exact fraction.
-use Rattle.std.proofs.Common.{◌≡◌, ℕ, ◌+◌, ◌-◌, ◌*◌, ◌<◌, ◌≤◌, min, Bool, true, false, cond, not, ltb, List, [], ◌∷◌, is_some, Some, None, Option, unwrap_or, refl, subst, arith}
+use Rattle.std.proofs.Common.{◌≡◌, ℕ, ◌+◌, ◌*◌, ◌<◌, ◌≤◌, min, false, not, List, [], ◌∷◌, is_some, Some, None, Option, unwrap_or, subst, arith}
 use Rattle.terms.specs.declared.refusal.Refusal.TheVariants.{NoFriction}
 use Rattle.terms.specs.Chains.{when}
 use Rattle.terms.specs.Fractions.{Fraction, Near, whole}
@@ -9,25 +9,12 @@ use Rattle.ground.specs.Layers.{depth}
 use Rattle.pile.specs.declared.numbers.PileNumbers.{PileNumbers}
 use Rattle.pile.specs.Tip.{tip_fraction, tip_resistance, half_height, height_above}
 use Rattle.pile.specs.Shaft.{ShaftPart, parts_above, shaft_resistance}
+use Rattle.pile.proofs.Shafts.{heights, heights_fill}
 use Rattle.friction.specs.Rule.{Agrees}
 use Rattle.resistance.specs.UnitFriction.{friction_of, exact_friction_of, ceiling_in_pascals}
 use Rattle.resistance.specs.Fetched.{said_of, unsaid_from, friction_at, frictions_of, exact_friction_at, exact_frictions_of}
 use Rattle.resistance.specs.Resistance.{resistance_by, exact_shaft, exact_resistance, margin_of}
 use Rattle.resistance.proofs.Nearness.{near_sum, near_times, near_floor, near_limited, near_reduced}
-
-heights : List ShaftPart → ℕ
-heights [] = 0
-heights (s ∷ ss) = s.height + heights ss
-
--- the parts above a depth fill it, as far as there is ground
-heights_fill : (d : ℕ) (ls : List Layer) → heights (parts_above d ls) ≡ min d (depth ls)
-unfolding heights
-heights_fill d [] = omega arith
-heights_fill d (l ∷ ls) = by_depth (ltb 0 d) refl (heights_fill (d - l.thickness) ls)
-  where
-    by_depth : (b : Bool) → ltb 0 d ≡ b → heights (parts_above (d - l.thickness) ls) ≡ min (d - l.thickness) (depth ls) → heights (cond b (record { height = min l.thickness d; layer = l } ∷ parts_above (d - l.thickness) ls) []) ≡ min d (l.thickness + depth ls)
-    by_depth true e rest = omega (arith, rest)
-    by_depth false e rest = grind arith
 
 module _ (tolerance : ℕ) (fraction : ℕ → ℕ → ℕ → Option Fraction) (answer : ℕ → ℕ → ℕ → Option ℕ) (agrees : (soil category p : ℕ) → Agrees tolerance (fraction soil category p) (answer soil category p)) where
   -- the friction of one part
@@ -40,7 +27,6 @@ module _ (tolerance : ℕ) (fraction : ℕ → ℕ → ℕ → Option Fraction) 
 
   shaft_near : (n : PileNumbers) (i : ℕ) (ss : List ShaftPart) → unsaid_from answer n i ss ≡ None
       → Near ((tolerance + 1) * n.perimeter * heights ss) (shaft_resistance n.perimeter ss (frictions_of answer n ss)) (exact_shaft n.perimeter ss (exact_frictions_of fraction n ss))
-  unfolding heights
   shaft_near n i [] e = record { proper = omega arith; not_above = omega arith; not_below = omega arith }
   shaft_near n i (s ∷ ss) e =
       let split = or_none (when (not (is_some (said_of answer n s.layer))) (NoFriction i)) (unsaid_from answer n (i + 1) ss) e in

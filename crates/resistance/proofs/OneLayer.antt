@@ -1,60 +1,49 @@
 -- One layer on in the fetching of frictions.
-use Rattle.std.proofs.Common.{◌≡◌, ℕ, ◌+◌, ◌-◌, ◌<◌, min, not, List, [], ◌∷◌, ◌++◌, length, get_or, drop, is_some, Some, None, Option, Ok, Err, Result, unwrap_or, sym, refl, ap, ◌∙◌, arith}
-use Rattle.std.proofs.lemmas.List.{at_drop_more, append_assoc, append-nil}
+use Rattle.std.proofs.Common.{◌≡◌, ℕ, ◌+◌, ◌-◌, ◌≤◌, min, true, ltb, not, List, [], ◌∷◌, ◌++◌, length, is_some, Some, Option, Ok, Err, Result, unwrap_or, sym, ap, ◌∙◌, arith}
+use Rattle.std.proofs.lemmas.Bool.{and_parts, cond_both}
+use Rattle.std.proofs.lemmas.List.{append_assoc}
+use Rattle.std.specs.List.{AllByRecursion}
+use Rattle.terms.specs.Limits.{ceiling_limits}
 use Rattle.terms.specs.declared.refusal.Refusal.TheVariants.{NoFriction}
 use Rattle.terms.specs.Chains.{when, or_else}
 use Rattle.ground.specs.declared.layer.Layer.{Layer}
-use Rattle.ground.specs.Edits.{no_layer}
+use Rattle.ground.specs.Layers.{fit, sound}
 use Rattle.pile.specs.declared.numbers.PileNumbers.{PileNumbers}
 use Rattle.pile.specs.declared.frictions.Frictions.{Frictions}
 use Rattle.pile.specs.declared.frictions.Unfit.{Unfit}
 use Rattle.pile.specs.FrictionList.{friction_list, Pushes}
 use Rattle.pile.specs.Shaft.{ShaftPart, parts_above}
+use Rattle.pile.proofs.Bounds.{layer_bounds}
 use Rattle.resistance.specs.UnitFriction.{friction_of}
 use Rattle.resistance.specs.Fetched.{said_of, unsaid_from, frictions_of}
 
-pub no_parts : (ls : List Layer) → parts_above 0 ls ≡ []
-no_parts [] = refl
-no_parts (l ∷ ls) = refl
+-- no more parts than layers
+pub few_parts : (d : ℕ) (ls : List Layer) → length (parts_above d ls) ≤ length ls
+few_parts d [] = omega arith
+few_parts d (l ∷ ls) = cond_both (ltb 0 d) (record { height = min l.thickness d; layer = l } ∷ parts_above (d - l.thickness) ls) [] (λ ss. length ss ≤ length (l ∷ ls)) (λ e. omega (arith, few_parts (d - l.thickness) ls)) (λ e. omega arith)
 
-parts_next : (d : ℕ) (l : Layer) (ls : List Layer) → 0 < d → parts_above d (l ∷ ls) ≡ record { height = min l.thickness d; layer = l } ∷ parts_above (d - l.thickness) ls
-parts_next d l ls h = grind arith
+-- no ceiling above the greatest
+pub low_ceilings : (d : ℕ) (ls : List Layer) → sound ls ≡ true → AllByRecursion (λ s. s.layer.ceiling ≤ ceiling_limits.most) (parts_above d ls)
+low_ceilings d [] h = tt
+low_ceilings d (l ∷ ls) h =
+    let fits = and_parts (fit l) (sound ls) h in
+    cond_both (ltb 0 d) (record { height = min l.thickness d; layer = l } ∷ parts_above (d - l.thickness) ls) [] (AllByRecursion (λ s. s.layer.ceiling ≤ ceiling_limits.most)) (λ e. ((layer_bounds l fits.0).ceiling.1, low_ceilings (d - l.thickness) ls fits.1)) (λ e. tt)
 
 -- what fits is at the end of the list
 pub pushed : (old new : Frictions) (q : ℕ) (r : Result (Unit {0}) Unfit) (u : Unit {0}) → r ≡ Ok u → Pushes old q r new → friction_list new ≡ friction_list old ++ q ∷ []
 pushed old new q (Ok v) u e p = p.1
 pushed old new q (Err x) u e p = cc
 
-module _ (answer : ℕ → ℕ → ℕ → Option ℕ) (n : PileNumbers) (xs : List Layer) (i : ℕ) (inside : i < length xs) (d : ℕ) (more : 0 < d) where
-  abbrev here : Layer
-  here = get_or xs i no_layer
+-- where the rule answers of the next part, its friction goes from what is to come to the end of what is there
+module _ (answer : ℕ → ℕ → ℕ → Option ℕ) (n : PileNumbers) (s : ShaftPart) (zs ss : List ShaftPart) (next : zs ≡ s ∷ ss) (a : ℕ) (said : said_of answer n s.layer ≡ Some a) where
+  pub answered_here : (k : ℕ) → unsaid_from answer n k zs ≡ unsaid_from answer n (k + 1) ss
+  answered_here k = ap (unsaid_from answer n k) next ∙ ap (λ (o : Option ℕ). or_else (when (not (is_some o)) (NoFriction k)) (unsaid_from answer n (k + 1) ss)) said
 
-  abbrev rest : List ShaftPart
-  rest = parts_above (d - here.thickness) (drop (i + 1) xs)
+  friction_here : frictions_of answer n zs ≡ friction_of n s.layer a ∷ frictions_of answer n ss
+  friction_here = ap (frictions_of answer n) next ∙ ap (λ (o : Option ℕ). friction_of n s.layer (unwrap_or o 0) ∷ frictions_of answer n ss) said
 
-  parts_here : parts_above d (drop i xs) ≡ record { height = min here.thickness d; layer = here } ∷ rest
-  parts_here = at_drop_more (parts_above d) xs i no_layer inside ∙ parts_next d here (drop (i + 1) xs) more
-
-  pub answered_here : (k a : ℕ) → said_of answer n here ≡ Some a → unsaid_from answer n k (parts_above d (drop i xs)) ≡ unsaid_from answer n (k + 1) rest
-  answered_here k a e =
-      ap (unsaid_from answer n k) parts_here ∙ ap (λ (o : Option ℕ). or_else (when (not (is_some o)) (NoFriction k)) (unsaid_from answer n (k + 1) rest)) e
-
-  pub friction_here : (a : ℕ) → said_of answer n here ≡ Some a → frictions_of answer n (parts_above d (drop i xs)) ≡ friction_of n here a ∷ frictions_of answer n rest
-  friction_here a e =
-      ap (frictions_of answer n) parts_here ∙ ap (λ (o : Option ℕ). friction_of n here (unwrap_or o 0) ∷ frictions_of answer n rest) e
-
-  -- the friction goes from what is to come to the end of what is there
-  pub one_on : (a : ℕ) (was new all : List ℕ) → said_of answer n here ≡ Some a → new ≡ was ++ friction_of n here a ∷ []
-      → was ++ frictions_of answer n (parts_above d (drop i xs)) ≡ all → new ++ frictions_of answer n rest ≡ all
-  one_on a was new all e is h =
-      ap (λ qs. qs ++ frictions_of answer n rest) is
-      ∙ append_assoc was (friction_of n here a ∷ []) (frictions_of answer n rest)
-      ∙ sym (ap (λ qs. was ++ qs) (friction_here a e)) ∙ h
-
--- nothing is left to come
-pub all_fetched : (answer : ℕ → ℕ → ℕ → Option ℕ) (n : PileNumbers) (whole left : List ShaftPart) (qs : List ℕ) (k : ℕ) → left ≡ []
-    → qs ++ frictions_of answer n left ≡ frictions_of answer n whole
-    → unsaid_from answer n k left ≡ unsaid_from answer n 0 whole
-    → (unsaid_from answer n 0 whole ≡ None) × (qs ≡ frictions_of answer n whole)
-all_fetched answer n whole left qs k none h u =
-    (sym u ∙ ap (unsaid_from answer n k) none, sym (append-nil qs) ∙ sym (ap (λ ss. qs ++ frictions_of answer n ss) none) ∙ h)
+  pub one_on : (was new all : List ℕ) → new ≡ was ++ friction_of n s.layer a ∷ [] → was ++ frictions_of answer n zs ≡ all → new ++ frictions_of answer n ss ≡ all
+  one_on was new all is h =
+      ap (λ qs. qs ++ frictions_of answer n ss) is
+      ∙ append_assoc was (friction_of n s.layer a ∷ []) (frictions_of answer n ss)
+      ∙ sym (ap (λ qs. was ++ qs) friction_here) ∙ h

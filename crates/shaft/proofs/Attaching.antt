@@ -18,9 +18,7 @@ pub attached_more : (d : ℕ) (l : Layer) (ls : List Layer) (q : ℕ) (qs : List
     → attached (parts_above d (l ∷ ls)) (q ∷ qs) ≡ part_down_to d l q ∷ attached (parts_above (d - l.thickness) ls) qs
 attached_more d l ls q qs h = ap (λ ss. attached ss (q ∷ qs)) (cond-true _ _ _ (lt-ltb 0 d h))
 
--- no layer or no friction is left
-pub attached_end : (d : ℕ) (ls : List Layer) (qs : List ℕ) → (ls ≡ []) ⊎ (qs ≡ []) → attached (parts_above d ls) qs ≡ []
-attached_end d ls qs h = elim h [
-  | inl a ↦ ap (λ zs. attached (parts_above d zs) qs) a
-  | inr b ↦ ap (λ ys. attached (parts_above d ls) ys) b ∙ attached_free (parts_above d ls)
-]
+-- no part or no friction is left
+pub attached_end : (ss : List ShaftPart) (qs : List ℕ) → (ss ≡ []) ⊎ (qs ≡ []) → attached ss qs ≡ []
+attached_end ss qs (inl a) = ap (λ zs. attached zs qs) a
+attached_end ss qs (inr b) = ap (attached ss) b ∙ attached_free ss

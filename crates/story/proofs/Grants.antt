@@ -113,13 +113,13 @@ pile_free n h =
 
 module _ (m : Meaning) (agrees : (soil category p : ℕ) → Agrees m.tolerance (m.fraction soil category p) (m.answer soil category p)) where
   has_fraction : (t : ℕ) (f : Option Fraction) (a : Option ℕ) → Agrees t f a → not (is_some a) ≡ false → is_some f ≡ true
-  has_fraction t None None h e = absurd (let z : ◌≡◌ {A = ℕ} 0 1 = cc in omega arith)
+  has_fraction t None None h e = cc
   has_fraction t None (Some a) h e = absurd h
   has_fraction t (Some f) None h e = absurd h
   has_fraction t (Some f) (Some a) h e = refl
 
   has_answer : (t : ℕ) (f : Option Fraction) (a : Option ℕ) → Agrees t f a → is_some f ≡ true → not (is_some a) ≡ false
-  has_answer t None None h e = absurd (let z : ◌≡◌ {A = ℕ} 0 1 = cc in omega arith)
+  has_answer t None None h e = cc
   has_answer t None (Some a) h e = absurd h
   has_answer t (Some f) None h e = absurd h
   has_answer t (Some f) (Some a) h e = refl
@@ -144,7 +144,7 @@ module _ (m : Meaning) (agrees : (soil category p : ℕ) → Agrees m.tolerance 
     where
       by_driven : (o : Option PileNumbers) → s.pile ≡ o → Within load_limits q.load → Within factor_limits q.model_factor → Within factor_limits q.resistance_factor
           → by_pile o (Some NoPile) (site_refusal m.answer s.layers) ≡ None → TakesJudging m s q
-      by_driven None is l f g e = absurd (let z : ◌≡◌ {A = ℕ} 0 1 = cc in omega arith)
+      by_driven None is l f g e = cc
       by_driven (Some n) is l f g e =
           let d = or_none _ _ e in
           record {
@@ -199,7 +199,7 @@ module _ (m : Meaning) (agrees : (soil category p : ℕ) → Agrees m.tolerance 
 
   pub deny : (s : Site) (c : Plain) (r : Refusal) → refusal_of m s c ≡ Some r → Denied m s c (Refused r)
   deny s c r e = record {
-    not_allowed = λ h. let f : refusal_of m s c ≡ None = free s c h in let z : ◌≡◌ {A = ℕ} 0 1 = cc in omega arith;
+    not_allowed = λ h. let f : refusal_of m s c ≡ None = free s c h in cc;
     refusal = r;
     right = refl;
     first = e;

@@ -1,5 +1,5 @@
 -- What each call's contract says, as one step of a story.
-use Rattle.std.proofs.Common.{◌≡◌, ℕ, Ok, Err, Result, MatchResult, sym, refl, ap, ◌∙◌, subst, inl, inr, arith}
+use Rattle.std.proofs.Common.{◌≡◌, ℕ, Ok, Err, Result, MatchResult, sym, refl, ap, ◌∙◌, subst, inl, inr}
 use Rattle.terms.specs.declared.refusal.Refusal.{Refusal}
 use Rattle.terms.specs.Chains.{Answers}
 use Rattle.friction.specs.Rule.{Agrees}
@@ -30,7 +30,7 @@ module _ {R L : Type 0} (meaning : Study R L → Meaning) where
         (record {
           step = inl (grant (meaning s) (agrees s) (site_of s) c Done (q ∙ o.changes.0) (sym d), o.changes.1);
           kept = o.kept;
-          unchanged = λ r e. absurd (let z : ◌≡◌ {A = ℕ} 0 1 = cc in omega arith);
+          unchanged = λ r e. cc;
         })
     performs_change s t k c (Err r) a e f q d o =
         performs_as s t k c a (Refused r) e f

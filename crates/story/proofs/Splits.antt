@@ -67,8 +67,8 @@ module _ (m : Meaning) where
 
     pub placed : {s t : Site} {calls : List Plain} {answers : List Answer} → Told m s calls answers t
         → (earlier : List Plain) (c : Plain) (later : List Plain) (d : Answer) → calls ≡ earlier ++ c ∷ later → Fair m (left_by s earlier) c (get_or answers (length earlier) d)
-    placed over [] c later d e = absurd (let z : ◌≡◌ {A = ℕ} 0 1 = cc in omega arith)
-    placed over (b ∷ earlier) c later d e = absurd (let z : ◌≡◌ {A = ℕ} 0 1 = cc in omega arith)
+    placed over [] c later d e = cc
+    placed over (b ∷ earlier) c later d e = cc
     placed (granted {s = s} {c = k} {a = a} g told) [] c later d e =
         let same : k ≡ c = cc in
         subst (λ (x : Plain). Fair m s x a) same (inl g)

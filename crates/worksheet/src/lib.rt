@@ -32,6 +32,7 @@ fn split_line(text: &[u8]) -> (&[u8], &[u8])
 }
 
 // The lines of a text from the first on, each without its line feed.
+// `split_inclusive` was tried in place of it, and the loop of `work_sheet` over it was not proved.
 #[derive(Drop)]
 struct Lines<'a>(&'a [u8]);
 
@@ -56,6 +57,7 @@ impl<'a> Iterator for Lines<'a> {
 fn reply<R: FrictionRule, L: TransferLaw>(study: &mut Study<R, L>, line: &[u8]) -> Answer
     ensures { AnswersLine (meaning R.FrictionRule) study.old line.now result study.new }
 {
+    // Not `map_or_else`: a closure that changes the study tells nothing of what it returned.
     match parse_line(line) {
         Ok(call) => perform(study, &call),
         Err(refusal) => Answer::Refused(refusal),

@@ -18,6 +18,7 @@ use ground::table::Ground;
 use pile::driven::Pile;
 use pile::footing::Footing;
 use pile::frictions::Frictions;
+use pile::parts::Parts;
 use std::alloc::AllocError;
 use terms::limits::MAX_LAYERS;
 use terms::refusal::Refusal;
@@ -30,18 +31,14 @@ fn attach(footing: &Footing, frictions: &Frictions) -> ArrayVec<Part, MAX_LAYERS
     ensures { result.items ≡ attached (parts_above (numbers_on footing.now).length (layers_under footing.now)) (friction_list frictions.now) }
 {
     let mut parts = ArrayVec::new();
-    let mut left = footing.numbers().length;
-    for (layer, friction) in footing.layers().iter().zip(frictions.values()) {
-        if left == 0 {
-            break;
-        }
+    let depth = footing.numbers().length;
+    for (part, friction) in Parts::above(depth, footing.layers()).zip(frictions.values()) {
         parts.push(Part {
-            height: layer.thickness.min(left),
-            soil: layer.soil,
-            modulus: layer.modulus,
+            height: part.height,
+            soil: part.layer.soil,
+            modulus: part.layer.modulus,
             friction: *friction,
         });
-        left = left.saturating_sub(layer.thickness);
     }
     parts
 }

@@ -1,55 +1,61 @@
-use Rattle.std.proofs.Common.{◌≡◌, ◌∷◌, true, sym, ap, ◌∙◌, arith}
-use Rattle.std.proofs.lemmas.Bool.{and_parts}
-use Rattle.std.proofs.lemmas.Slice.Zip.{Zip-more, either_empty_from_Zip}
-use Rattle.std.specs.Iterator.Adapters.{zip_second}
+use Rattle.std.proofs.Common.{◌≡◌, ◌≤◌, [], ◌⊎◌, ap, inl, inr, mul-le-mul, arith}
+use Rattle.std.specs.Iterator.Adapters.{zip_first, zip_second}
 use Rattle.std.specs.Slice.Iter.{iter_rest}
-use Rattle.pile.specs.Frictions.{all_moderate}
-use Rattle.pile.specs.Footing.{numbers_on}
+use Rattle.std.proofs.lemmas.List.{nil_from_length}
+use Rattle.pile.specs.Footing.{layers_under, numbers_on}
+use Rattle.pile.specs.FrictionList.{friction_list}
+use Rattle.pile.specs.Parts.{parts_left}
+use Rattle.pile.specs.Shaft.{parts_above}
 use Rattle.pile.proofs.Bounds.{pile_bounds}
-use Rattle.pile.proofs.Shafts.{shaft_turn, shaft_end, part_size, shaft_size}
+use Rattle.pile.proofs.Shafts.{heights, heights_fill, shaft_turn, shaft_end, shaft_most}
 use Rattle.pile.proofs.footing.Footing.along_shaft.Goals as goal
 
-pub overflow_mul-sum-in-loop-layer : goal.overflow_mul-sum-in-loop-layer
-overflow_mul-sum-in-loop-layer c =
-    let inv = c.loop-layer.invariant in
-    let f = c.args.self.now in
-    let n = numbers_on f in
-    let bounds = pile_bounds n f.pile.now.fit in
-    let turn = Zip-more c.loop-layer.layer-iterator c.next.new.self c.next.result _ c.in-Some.is c.next.ensures.steps in
-    let part = part_size n.perimeter c.min-height.result c.in-Some.friction.now c.loop-layer.left c.loop-layer.sum _ (iter_rest (zip_second c.next.new.self)) (sym (ap all_moderate turn.1) ∙ inv.3) (omega (arith, c.min-height.ensures)) inv.2 in
-    rw c.numbers-numbers.ensures.value (omega (arith, part, shaft_size n.perimeter n.length bounds.perimeter.1 bounds.length.1))
+pub loop-part-init : goal.loop-part-init
+loop-part-init c =
+    let n = numbers_on c.args.self.now in
+    let start : parts_left (zip_first c.into_iter-part-iterator.result) ≡ parts_above n.length (layers_under c.args.self.now) = cc in
+    let given : iter_rest (zip_second c.into_iter-part-iterator.result) ≡ friction_list c.args.frictions.now = cc in
+    rw (start, given) (omega (arith, heights_fill n.length (layers_under c.args.self.now)), omega arith)
+
+pub overflow_mul-sum : goal.overflow_mul-sum
+overflow_mul-sum c =
+    let n = numbers_on c.args.self.now in
+    let bounds = pile_bounds n c.args.self.now.pile.now.fit in
+    let deep : c.in-Some.part.height ≤ 25000 = omega (arith, ap heights c.in-Some.ensures.steps.0, c.loop-part.invariant.0, bounds.length.1) in
+    rw c.numbers-numbers.ensures.value (omega (arith, mul-le-mul bounds.perimeter.1 deep))
+
+pub overflow_mul-sum-in-loop-part : goal.overflow_mul-sum-in-loop-part
+overflow_mul-sum-in-loop-part c =
+    let n = numbers_on c.args.self.now in
+    let bounds = pile_bounds n c.args.self.now.pile.now.fit in
+    let turn = shaft_turn n.perimeter c.loop-part.sum _ c.in-Some.part c.in-Some.friction.now _ _ _ _ c.in-Some.ensures.steps.0 c.in-Some.ensures.steps.1 c.loop-part.invariant.1 in
+    rw c.numbers-numbers.ensures.value (omega (arith, turn, shaft_most n.perimeter n.length (layers_under c.args.self.now) (friction_list c.args.frictions.now) bounds.perimeter.1 bounds.length.1 c.args.frictions.now.moderate))
 
 pub overflow_add-sum : goal.overflow_add-sum
 overflow_add-sum c =
-    let inv = c.loop-layer.invariant in
-    let f = c.args.self.now in
-    let n = numbers_on f in
-    let bounds = pile_bounds n f.pile.now.fit in
-    let turn = Zip-more c.loop-layer.layer-iterator c.next.new.self c.next.result _ c.in-Some.is c.next.ensures.steps in
-    let part = part_size n.perimeter c.min-height.result c.in-Some.friction.now c.loop-layer.left c.loop-layer.sum _ (iter_rest (zip_second c.next.new.self)) (sym (ap all_moderate turn.1) ∙ inv.3) (omega (arith, c.min-height.ensures)) inv.2 in
-    rw c.numbers-numbers.ensures.value (omega (arith, part, shaft_size n.perimeter n.length bounds.perimeter.1 bounds.length.1))
-
-pub loop-layer-preserved : goal.loop-layer-preserved
-loop-layer-preserved c =
-    let inv = c.loop-layer.invariant in
     let n = numbers_on c.args.self.now in
-    let q = c.in-Some.friction.now in
-    let turn = Zip-more c.loop-layer.layer-iterator c.next.new.self c.next.result _ c.in-Some.is c.next.ensures.steps in
-    let moderate : all_moderate (q ∷ iter_rest (zip_second c.next.new.self)) ≡ true = sym (ap all_moderate turn.1) ∙ inv.3 in
+    let bounds = pile_bounds n c.args.self.now.pile.now.fit in
+    let turn = shaft_turn n.perimeter c.loop-part.sum _ c.in-Some.part c.in-Some.friction.now _ _ _ _ c.in-Some.ensures.steps.0 c.in-Some.ensures.steps.1 c.loop-part.invariant.1 in
+    rw c.numbers-numbers.ensures.value (omega (arith, turn, shaft_most n.perimeter n.length (layers_under c.args.self.now) (friction_list c.args.frictions.now) bounds.perimeter.1 bounds.length.1 c.args.frictions.now.moderate))
+
+pub loop-part-preserved : goal.loop-part-preserved
+loop-part-preserved c =
+    let n = numbers_on c.args.self.now in
+    let steps = c.in-Some.ensures.steps in
     rw c.numbers-numbers.ensures.value (
-      omega (arith, inv.0),
-      shaft_turn n.perimeter c.loop-layer.left c.loop-layer.sum _ c.min-height.result c.in-Some.layer.now q _ _ _ _ turn.0 turn.1 c.min-height.ensures inv.1,
-      part_size n.perimeter c.min-height.result q c.loop-layer.left c.loop-layer.sum _ (iter_rest (zip_second c.next.new.self)) moderate (omega (arith, c.min-height.ensures)) inv.2,
-      (and_parts _ _ moderate).1,
+      omega (arith, ap heights steps.0, c.loop-part.invariant.0),
+      shaft_turn n.perimeter c.loop-part.sum _ c.in-Some.part c.in-Some.friction.now _ _ _ _ steps.0 steps.1 c.loop-part.invariant.1,
     )
 
 pub returns-clause-value : goal.returns-clause-value
 returns-clause-value c =
-    let last = either_empty_from_Zip c.loop-layer.layer-iterator c.next.new.self c.next.result c.in-None.is c.next.ensures.steps in
-    omega (arith, shaft_end (numbers_on c.args.self.now).perimeter c.loop-layer.left _ _ last, c.loop-layer.invariant.1)
+    let last : (parts_left (zip_first c.loop-part.part-iterator) ≡ []) ⊎ (iter_rest (zip_second c.loop-part.part-iterator) ≡ []) =
+    elim c.in-None.ensures.steps [ inl a ↦ inl a.1.0 | inr b ↦ inr (nil_from_length _ b.1.0) ]
+    in
+    omega (arith, shaft_end (numbers_on c.args.self.now).perimeter _ _ last, c.loop-part.invariant.1)
 
 pub returns-clause-small : goal.returns-clause-small
 returns-clause-small c =
     let n = numbers_on c.args.self.now in
     let bounds = pile_bounds n c.args.self.now.pile.now.fit in
-    omega (arith, c.loop-layer.invariant.2, shaft_size n.perimeter n.length bounds.perimeter.1 bounds.length.1)
+    omega (arith, c.loop-part.invariant.1, shaft_most n.perimeter n.length (layers_under c.args.self.now) (friction_list c.args.frictions.now) bounds.perimeter.1 bounds.length.1 c.args.frictions.now.moderate)

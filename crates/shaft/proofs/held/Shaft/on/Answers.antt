@@ -1,8 +1,7 @@
-use Rattle.std.proofs.Common.{◌≡◌, ◌∙◌, arith}
+use Rattle.std.proofs.Common.{arith}
 use Rattle.pile.specs.Footing.{layers_under, numbers_on}
 use Rattle.pile.specs.FrictionList.{friction_list}
 use Rattle.pile.proofs.Bounds.{pile_bounds}
-use Rattle.shaft.specs.Attached.{parts_up}
 use Rattle.shaft.proofs.Upward.{contacts_up, height_up, resistance_up}
 use Rattle.shaft.proofs.held.Shaft.on.Goals as goal
 
