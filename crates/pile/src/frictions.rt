@@ -1,4 +1,5 @@
-// A list of unit frictions in Pa, one for each layer that the shaft passes, the uppermost first.
+// A list of unit frictions in Pa, one for each layer that the shaft passes, the uppermost first. It stands beside the layers, since a
+// resistance is promised over any list, whatever rule it comes from.
 ghost use Rattle.std.specs.Prelude.{◌≡◌, true};
 ghost use Rattle.pile.specs.Frictions.{all_moderate};
 

@@ -16,25 +16,24 @@ use Rattle.shaft.specs.Room.{height_of, part_resistance, parts_resistance, whole
 use Rattle.shaft.specs.Attached.{attached, parts_up, body_on}
 use Rattle.shaft.proofs.Attaching.{attached_free, attached_more}
 
--- a sum over the parts is the same in either order
-height_push : (ps : List Part) (p : Part) → height_of (ps ++ p ∷ []) ≡ height_of ps + p.height
-height_push [] p = omega arith
-height_push (o ∷ ps) p = omega (arith, height_push ps p)
-
 turned : (p : Part) (ps : List Part) → reverse (p ∷ ps) ≡ reverse ps ++ p ∷ []
 turned p ps = reverse-append (p ∷ []) ps
 
-height_reverse : (ps : List Part) → height_of (reverse ps) ≡ height_of ps
-height_reverse [] = refl
-height_reverse (p ∷ ps) = omega (arith, ap height_of (turned p ps), height_push (reverse ps) p, height_reverse ps)
+-- a sum over the parts is the same in either order
+module _ (each : Part → ℕ) (total : List Part → ℕ) (none : total [] ≡ 0) (more : (p : Part) (ps : List Part) → total (p ∷ ps) ≡ each p + total ps) where
+  one_last : (ps : List Part) (p : Part) → total (ps ++ p ∷ []) ≡ total ps + each p
+  one_last [] p = omega (arith, more p [], none)
+  one_last (o ∷ ps) p = omega (arith, more o (ps ++ p ∷ []), more o ps, one_last ps p)
 
-resistance_push : (b : PileBody) (ps : List Part) (p : Part) → parts_resistance b (ps ++ p ∷ []) ≡ parts_resistance b ps + part_resistance b p
-resistance_push b [] p = omega arith
-resistance_push b (o ∷ ps) p = omega (arith, resistance_push b ps p)
+  sum_reverse : (ps : List Part) → total (reverse ps) ≡ total ps
+  sum_reverse [] = refl
+  sum_reverse (p ∷ ps) = omega (arith, ap total (turned p ps), one_last (reverse ps) p, more p ps, sum_reverse ps)
+
+height_reverse : (ps : List Part) → height_of (reverse ps) ≡ height_of ps
+height_reverse = sum_reverse (λ p. p.height) height_of refl (λ p ps. refl)
 
 resistance_reverse : (b : PileBody) (ps : List Part) → parts_resistance b (reverse ps) ≡ parts_resistance b ps
-resistance_reverse b [] = refl
-resistance_reverse b (p ∷ ps) = omega (arith, ap (parts_resistance b) (turned p ps), resistance_push b (reverse ps) p, resistance_reverse b ps)
+resistance_reverse b = sum_reverse (part_resistance b) (parts_resistance b) refl (λ p ps. refl)
 
 contacts_push : (ps : List Part) (p : Part) → all_contacts ps ≡ true → all_contacts (p ∷ []) ≡ true → all_contacts (ps ++ p ∷ []) ≡ true
 contacts_push [] p h k = k
@@ -86,7 +85,3 @@ module _ (ls : List Layer) (n : PileNumbers) (qs : List ℕ) (ps : List Part) (e
       let parts = attached (parts_above n.length ls) qs in
       ap (λ x. whole_resistance x ps) f ∙ ap (whole_resistance (body_on ls n)) e
       ∙ ap (λ x. n.tip_area * (body_on ls n).tip_resistance + x) (resistance_reverse (body_on ls n) parts ∙ attached_resistance (body_on ls n) (parts_above n.length ls) qs)
-
--- where each is told by an equal
-pub parts_same : (ls zs : List Layer) (n r : PileNumbers) (qs ys : List ℕ) → r ≡ n → zs ≡ ls → ys ≡ qs → parts_up zs r ys ≡ parts_up ls n qs
-parts_same ls zs n r qs ys a b c = cc

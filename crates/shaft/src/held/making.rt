@@ -88,7 +88,7 @@ impl Shaft {
         })
     }
 
-    // The shaft of a pile in a ground, over its frictions; refused where the ground ends above the averaging's, or the resistance overstrains
+    // The shaft of any pile in any ground, over any frictions; refused where the ground ends above the averaging's, or the resistance overstrains
     // the pile.
     pub fn new(ground: &Ground, pile: &Pile, frictions: &Frictions) -> Result<Shaft, Refusal>
         ensures { Answers (shaft_refusal (strata ground.now) (numbers_of pile.now) (friction_list frictions.now)) (StandsOn (strata ground.now) (numbers_of pile.now) (friction_list frictions.now)) result }
