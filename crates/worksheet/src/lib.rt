@@ -32,9 +32,8 @@ fn split_line(text: &[u8]) -> (&[u8], &[u8])
 }
 
 // The lines of a text from the first on, each without its line feed.
-// `split_inclusive` with `strip_suffix` was tried in place of it. Without an invariant, what `work_sheet` promises where `work_line` fails was not proved: the lines worked so far, and that this comes only for want of room.
-// With an invariant the check refuses its own statement of the loop's sequence, since that holds a closure in a function with type parameters.
-// With a pointer to a function in place of the closure, it was not proved that each piece is a line, nor that the loop goes on and ends.
+// A loop over `split_inclusive` was tried in its place: in a function with type parameters the check refuses its own statement of a
+// sequence that holds a closure, and with a pointer to a function the code would be longer than this.
 #[derive(Drop)]
 struct Lines<'a>(&'a [u8]);
 
