@@ -13,7 +13,7 @@ use crate::{Bedded, Side};
 use column::{Node, Part};
 use transfer::{Place, SoilContact, TransferLaw};
 
-// Up which shaft, in which soil, which of the two marches goes, in slices of `step` mm.
+// Up which shaft, in which soil, which of the two marches goes.
 #[derive(Drop)]
 pub(super) struct Climb<'a, L> {
     pub(super) bedded: &'a Bedded<'a, L>,

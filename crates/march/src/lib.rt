@@ -17,7 +17,8 @@ mod slice;
 #[cfg(test)]
 mod tests;
 
-// Which of the two marches. The kinds are closed: as a trait they would need a law for each fact that a definition by cases gives of both.
+// Which of the two marches. They differ in the formula and not in a constant, and the kinds are closed: as a trait they would need a law for each
+// fact that a definition by cases gives of both, so that the code matches on them.
 #[derive(Clone, Copy, PartialEq, Eq, Debug)]
 pub enum Side {
     Lower,

@@ -37,7 +37,7 @@ pub fn tell<R: FrictionRule, L: TransferLaw>(
     ensures { Tells (meaning R.FrictionRule) study.old calls.now answers.old result study.new answers.new }
 {
     let n = calls.len().min(answers.len());
-    // Nothing would be known of answers written through a zip.
+    // A zip of the calls with `answers.iter_mut()` was tried: nothing was known of what the loop wrote.
     for (i, call) in calls[..n].iter().enumerate() {
         answers[i] = perform(study, call);
     }

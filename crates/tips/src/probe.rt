@@ -33,6 +33,7 @@ fn crossing(width: u64, below: u64, above: u64) -> u64
         return width / 2;
     }
     let gap = wide * u128::from(below) / whole;
+    // Less than the width, so that `as` loses nothing and there is no error to hand on.
     gap.clamp(1, wide - 1) as u64
 }
 

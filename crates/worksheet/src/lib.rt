@@ -58,7 +58,7 @@ impl<'a> Iterator for Lines<'a> {
 fn reply<R: FrictionRule, L: TransferLaw>(study: &mut Study<R, L>, line: &[u8]) -> Answer
     ensures { AnswersLine (meaning R.FrictionRule) study.old line.now result study.new }
 {
-    // Not `map_or_else`: a closure that changes the study tells nothing of what it returned.
+    // `map_or_else` was tried: of a closure that changes the study, what it returned was not proved.
     match parse_line(line) {
         Ok(call) => perform(study, &call),
         Err(refusal) => Answer::Refused(refusal),
