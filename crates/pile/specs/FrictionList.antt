@@ -1,12 +1,12 @@
 -- The values of a list of frictions, and one more at its end.
-use Rattle.std.specs.Prelude.{◌≡◌, ℕ, cond, Some, None, Ok, Err, Option, Result, List, [], ◌∷◌, ◌++◌, length, nat_le}
+use Rattle.std.specs.Prelude.{◌≡◌, ℕ, cond, Some, None, Ok, Err, Option, Result, List, [], ◌∷◌, ◌++◌, length, take, nat_le}
 use Rattle.terms.specs.Limits.{outside, friction_limits, max_layers}
 use Rattle.pile.specs.declared.frictions.Frictions.{Frictions}
 use Rattle.pile.specs.declared.frictions.Unfit.{Unfit}
 use Rattle.pile.specs.declared.frictions.Unfit.TheVariants.{Full, TooGreat}
 
 abbrev pub friction_list : Frictions → List ℕ
-friction_list f = f.values.items
+friction_list f = take f.count f.values
 
 -- the list is full, or else the friction above the greatest
 abbrev pub unfit : List ℕ → ℕ → Option Unfit

@@ -4,7 +4,8 @@ use crate::footing::Footing;
 use crate::frictions::{Frictions, Unfit};
 use crate::numbers::PileNumbers;
 use crate::parts::{Parts, ShaftPart};
-use crate::tip::{Bearing, bearing_layer};
+use crate::resistance::resistance;
+use crate::tip::{Bearing, bearing_layer, tip_resistance};
 use ground::layer::Layer;
 use ground::table::Ground;
 use std::test::Fail;
@@ -212,6 +213,7 @@ fn averages_in_the_bearing_layer(rt: HostRuntime) -> Result<(), Fail> {
     ground.lay(sand(10_000, 2_000))?;
     let pile = Pile::new(bored(2_000))?;
     assert_eq!(rt; Footing::new(&ground, &pile)?.tip_resistance(), 2_200_000);
+    assert_eq!(rt; tip_resistance(&ground, &pile), Ok(2_200_000));
     Ok(())
 }
 
@@ -238,6 +240,7 @@ fn bears_below_an_edge(rt: HostRuntime) -> Result<(), Fail> {
         }
     );
     assert_eq!(rt; footing.tip_resistance(), 2_200_000);
+    assert_eq!(rt; tip_resistance(&ground, &pile), Ok(2_200_000));
     assert_eq!(rt; footing.layers(), ground.layers());
     assert_eq!(rt; footing.numbers(), pile.numbers());
     Ok(())
@@ -252,6 +255,9 @@ fn refuses_shallow_ground(rt: HostRuntime) -> Result<(), Fail> {
         Footing::new(&ground, &pile).err(),
         Some(Refusal::ShallowGround { depth: 3_500 })
     );
+    let shallow = Err(Refusal::ShallowGround { depth: 3_500 });
+    assert_eq!(rt; tip_resistance(&ground, &pile), shallow);
+    assert_eq!(rt; resistance(&ground, &pile, &Frictions::new()), shallow);
     Ok(())
 }
 
@@ -266,6 +272,7 @@ fn adds_tip_and_shaft(rt: HostRuntime) -> Result<(), Fail> {
         Footing::new(&ground, &pile)?.resistance(&frictions),
         471_000_000_000
     );
+    assert_eq!(rt; resistance(&ground, &pile, &frictions), Ok(471_000_000_000));
     Ok(())
 }
 
@@ -300,5 +307,17 @@ fn holds_32_frictions(rt: HostRuntime) -> Result<(), Fail> {
     assert_eq!(rt; frictions.values().len(), 32);
     let again = frictions.clone()?;
     assert_eq!(rt; again.values(), frictions.values());
+    Ok(())
+}
+
+// A copy takes one more, and what it was copied from does not.
+#[test]
+fn copies_frictions(rt: HostRuntime) -> Result<(), Fail> {
+    let mut frictions = Frictions::new();
+    frictions.push(30_000)?;
+    let mut copy = frictions;
+    copy.push(40_000)?;
+    assert_eq!(rt; frictions.values(), [30_000].as_slice());
+    assert_eq!(rt; copy.values(), [30_000, 40_000].as_slice());
     Ok(())
 }

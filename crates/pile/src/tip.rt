@@ -1,17 +1,19 @@
 // The bearing layer, the pressure averaged around the tip, and the tip resistance.
 ghost use Rattle.std.specs.Prelude.{◌≡◌, ◌≤◌, MatchOption};
 ghost use Rattle.terms.specs.Limits.{unit_resistance_limits};
+ghost use Rattle.terms.specs.Chains.{Answers};
 ghost use Rattle.ground.specs.Layers.{depth};
 ghost use Rattle.ground.specs.Table.{strata};
 ghost use Rattle.pile.specs.Driven.{numbers_of};
 ghost use Rattle.pile.specs.Pressure.{integral};
 ghost use Rattle.pile.specs.Bearing.{BearsAlone};
-ghost use Rattle.pile.specs.Tip.{half_height, needed_depth, tip_resistance};
+ghost use Rattle.pile.specs.Tip.{half_height, needed_depth, shallow_refusal, tip_resistance};
 ghost use Rattle.pile.specs.Footing.{layers_under, numbers_on};
 
 use crate::driven::Pile;
 use crate::footing::Footing;
 use ground::table::Ground;
+use terms::refusal::Refusal;
 
 // The least half height of the averaging, mm.
 const LEAST_HALF_HEIGHT: u64 = 500;
@@ -97,4 +99,11 @@ impl Footing<'_> {
         let integral = pressure_between(self.ground, tip - above, tip + below);
         PASCALS * numbers.tip_factor * integral / (above + below)
     }
+}
+
+// qb in Pa of any pile in any ground, or a refusal where the ground ends above the averaging's.
+pub fn tip_resistance(ground: &Ground, pile: &Pile) -> Result<u64, Refusal>
+    ensures { Answers (shallow_refusal (strata ground.now) (numbers_of pile.now)) (λ q. (q ≡ tip_resistance (strata ground.now) (numbers_of pile.now)) × (q ≤ unit_resistance_limits.most)) result }
+{
+    Ok(Footing::new(ground, pile)?.tip_resistance())
 }

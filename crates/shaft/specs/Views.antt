@@ -1,5 +1,5 @@
 -- What a shaft holds.
-use Rattle.std.specs.Prelude.{ℕ, List}
+use Rattle.std.specs.Prelude.{ℕ, List, take}
 use Rattle.transfer.specs.Curve.{Curve}
 use Rattle.column.specs.declared.Part.{Part}
 use Rattle.column.specs.declared.PileBody.{PileBody}
@@ -16,7 +16,7 @@ step_of s = s.step
 
 -- the lowest first
 abbrev pub parts_of : Shaft → List Part
-parts_of s = s.parts.items
+parts_of s = take s.count s.parts
 
 -- as a column sees it, under the two curves of a law
 abbrev pub case_over : Curve → Curve → Shaft → Case

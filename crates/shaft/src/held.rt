@@ -1,9 +1,8 @@
 // What a shaft holds.
-ghost use Rattle.std.specs.Prelude.{◌≡◌, ◌*◌, ◌≤◌, true};
-ghost use Rattle.terms.specs.Limits.{Within, step_limits, length_limits};
+ghost use Rattle.std.specs.Prelude.{◌≡◌, ◌*◌, ◌≤◌, true, length, take};
+ghost use Rattle.terms.specs.Limits.{Within, max_layers, step_limits, length_limits};
 ghost use Rattle.shaft.specs.Room.{Body, Contact, all_contacts, height_of, whole_resistance, most_strain};
 
-use arrayvec::ArrayVec;
 use column::{Part, PileBody};
 use terms::limits::MAX_LAYERS;
 
@@ -11,16 +10,20 @@ pub mod making;
 pub mod views;
 
 // The pile's body, the height of a slice in mm, and the parts of the shaft, the lowest first. A march over it fits 64 bits and asks no law
-// beyond its limits, since its resistance strains the material by no more than 1 in 100.
-#[derive(Drop)]
+// beyond its limits, since its resistance strains the material by no more than 1 in 100. The parts are an array and how many of it count, since an
+// `ArrayVec` is not `Copy`.
+#[derive(Copy)]
 pub struct Shaft {
     body: PileBody,
     step: u64,
-    parts: ArrayVec<Part, MAX_LAYERS>,
+    parts: [Part; MAX_LAYERS],
+    count: usize,
+    ghost whole: { length parts ≡ max_layers },
+    ghost few: { count ≤ max_layers },
     ghost bodied: { Body body },
     ghost borne: { Contact body.tip_soil body.tip_modulus body.tip_resistance },
-    ghost met: { all_contacts parts.items ≡ true },
+    ghost met: { all_contacts (take count parts) ≡ true },
     ghost stepped: { Within step_limits step },
-    ghost deep: { height_of parts.items ≤ length_limits.most },
-    ghost firm: { whole_resistance body parts.items ≤ most_strain * body.stiffness },
+    ghost deep: { height_of (take count parts) ≤ length_limits.most },
+    ghost firm: { whole_resistance body (take count parts) ≤ most_strain * body.stiffness },
 }

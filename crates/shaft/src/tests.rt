@@ -63,6 +63,8 @@ fn stands_in_one_layer(rt: HostRuntime) -> Result<(), Fail> {
     assert_eq!(rt; *again.body(), body);
     assert_eq!(rt; again.step(), 1_000);
     assert_eq!(rt; again.parts(), shaft.parts());
+    let copy = shaft;
+    assert_eq!(rt; copy.parts(), shaft.parts());
     Ok(())
 }
 

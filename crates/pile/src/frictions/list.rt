@@ -5,29 +5,31 @@ ghost use Rattle.pile.specs.Frictions.{all_moderate};
 ghost use Rattle.pile.specs.FrictionList.{friction_list, Pushes};
 
 use crate::frictions::{Frictions, Unfit};
-use arrayvec::ArrayVec;
 use std::alloc::AllocError;
-use terms::limits::FRICTION;
+use terms::limits::{FRICTION, MAX_LAYERS};
 
 impl Frictions {
     pub fn new() -> Frictions
         ensures { friction_list result ≡ [] }
     {
-        let values = ArrayVec::new();
-        Frictions { values }
+        Frictions {
+            values: [0; MAX_LAYERS],
+            count: 0,
+        }
     }
 
     // One more; where it has no place, nothing is changed.
     pub fn push(&mut self, friction: u64) -> Result<(), Unfit>
         ensures { Pushes self.old friction result self.new }
     {
-        if self.values.is_full() {
+        if self.count >= MAX_LAYERS {
             return Err(Unfit::Full);
         }
         if FRICTION.excludes(friction) {
             return Err(Unfit::TooGreat);
         }
-        self.values.push(friction);
+        self.values[self.count] = friction;
+        self.count += 1;
         Ok(())
     }
 
@@ -36,18 +38,17 @@ impl Frictions {
         ensures few { length result.now ≤ max_layers }
         ensures moderate { all_moderate result.now ≡ true }
     {
-        self.values.as_slice()
+        &self.values[..self.count]
     }
 }
 
-// `Clone` without `Copy` is not derived for a struct with a ghost field.
+// By hand, so that its promise can be read.
 impl Clone for Frictions {
-    ghost is_clone = { λ f g. friction_list g ≡ friction_list f };
+    ghost is_clone = { λ f g. g ≡ f };
 
     ghost is_infallible = { λ _. Unit {0} };
 
     fn clone(&self) -> Result<Frictions, AllocError> {
-        let values = self.values.clone()?;
-        Ok(Frictions { values })
+        Ok(*self)
     }
 }

@@ -1,5 +1,6 @@
 // Making the shaft of a pile in a ground.
-ghost use Rattle.std.specs.Prelude.{◌≡◌};
+ghost use Rattle.std.specs.Prelude.{◌≡◌, ◌≤◌, length, take};
+ghost use Rattle.terms.specs.Limits.{max_layers};
 ghost use Rattle.terms.specs.Chains.{Answers};
 ghost use Rattle.ground.specs.Table.{strata};
 ghost use Rattle.pile.specs.Driven.{numbers_of};
@@ -9,7 +10,6 @@ ghost use Rattle.pile.specs.Shaft.{parts_above};
 ghost use Rattle.shaft.specs.Room.{Body, Contact};
 ghost use Rattle.shaft.specs.Attached.{attached, parts_up, body_on, strain_refusal, shaft_refusal};
 ghost use Rattle.shaft.specs.Standing.{StandsOn};
-ghost use Rattle.shaft.specs.Views.{body_of, step_of, parts_of};
 
 use crate::held::Shaft;
 use arrayvec::ArrayVec;
@@ -52,6 +52,18 @@ fn attach_up(footing: &Footing, frictions: &Frictions) -> ArrayVec<Part, MAX_LAY
     parts
 }
 
+// The same as an array, and how many of it count.
+fn laid_out(parts: &ArrayVec<Part, MAX_LAYERS>) -> ([Part; MAX_LAYERS], usize)
+    ensures whole { length result.0 ≡ max_layers }
+    ensures few { result.1 ≤ max_layers }
+    ensures value { take result.1 result.0 ≡ parts.now.items }
+{
+    let count = parts.len();
+    let mut array = [Part::default(); MAX_LAYERS];
+    array[..count].copy_from_slice(parts.as_slice());
+    (array, count)
+}
+
 // The body of the pile on the layer that bears it.
 fn body_on(footing: &Footing) -> PileBody
     ensures value { result ≡ body_on (layers_under footing.now) (numbers_on footing.now) }
@@ -81,10 +93,12 @@ impl Shaft {
             return Err(Refusal::OverstrainedPile);
         }
         let numbers = footing.numbers();
+        let (parts, count) = laid_out(&attach_up(footing, frictions));
         Ok(Shaft {
             body,
             step: numbers.step,
-            parts: attach_up(footing, frictions),
+            parts,
+            count,
         })
     }
 
@@ -97,17 +111,13 @@ impl Shaft {
     }
 }
 
-// `Clone` without `Copy` is not derived for a struct with a ghost field.
+// By hand, so that its promise can be read.
 impl Clone for Shaft {
-    ghost is_clone = { λ s t. (body_of t ≡ body_of s) × (step_of t ≡ step_of s) × (parts_of t ≡ parts_of s) };
+    ghost is_clone = { λ s t. t ≡ s };
 
     ghost is_infallible = { λ _. Unit {0} };
 
     fn clone(&self) -> Result<Shaft, AllocError> {
-        Ok(Shaft {
-            body: self.body,
-            step: self.step,
-            parts: self.parts.clone()?,
-        })
+        Ok(*self)
     }
 }

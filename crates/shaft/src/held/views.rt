@@ -29,7 +29,7 @@ impl Shaft {
     pub fn parts(&self) -> &[Part]
         ensures { result.now ≡ parts_of self.now }
     {
-        self.parts.as_slice()
+        &self.parts[..self.count]
     }
 
     // T, the furthest displacement of the tip, nm.

@@ -1,4 +1,4 @@
-use Rattle.std.proofs.Common.{arith}
+use Rattle.std.proofs.Common.{take, ◌∙◌, arith}
 use Rattle.pile.specs.Footing.{layers_under, numbers_on}
 use Rattle.pile.specs.FrictionList.{friction_list}
 use Rattle.pile.proofs.Bounds.{pile_bounds}
@@ -12,10 +12,13 @@ invariant_of-result c =
     let n = numbers_on f in
     let qs = friction_list c.args.frictions.now in
     let body = c.body_on-body.ensures in
-    let parts = c.attach_up.result.items in
-    let told = c.attach_up.ensures in
+    let laid = c.laid_out-count.ensures in
+    let parts = take c.laid_out-count.result.1 c.laid_out-count.result.0 in
+    let told = laid.value ∙ c.attach_up.ensures in
     let bounds = pile_bounds n f.pile.now.fit in
     record {
+      whole = laid.whole;
+      few = laid.few;
       bodied = body.bodied;
       borne = body.borne;
       met = contacts_up ls n qs parts told f.ground.now.fit c.args.frictions.now.moderate;
