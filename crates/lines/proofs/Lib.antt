@@ -1,3 +1,4 @@
+pub mod Digits
 pub mod Onward
 pub mod Once
 pub mod Shapes

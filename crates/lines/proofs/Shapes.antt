@@ -1,9 +1,9 @@
 -- A field is a space and the bytes before the next one.
-use Rattle.std.proofs.Common.{◌≡◌, ◌∙◌, ℕ, ◌+◌, ◌-◌, true, false, nat_eq, List, [], ◌∷◌, length, get_or, take, drop, refl, inl, inr, add-one, eq-zero-or-pos, arith, length-take-le, get_or-take}
+use Rattle.std.proofs.Common.{◌≡◌, ◌∙◌, ℕ, ◌+◌, ◌≤◌, true, false, nat_eq, List, [], ◌∷◌, length, get_or, take, drop, sym, refl, add-one, arith, length-take-le, get_or-take}
 use Rattle.std.proofs.lemmas.Grind.{common_steps}
 use Rattle.std.specs.Cmp.Lexicographic.{pointwise}
 use Rattle.std.specs.Str.Parse.{digits_value}
-use Rattle.lines.specs.Fields.{Numeral, UpToSpace, Shape, Field, NoField}
+use Rattle.lines.specs.Fields.{Numeral, UpToSpace, NoNumber, Field, NoField}
 
 -- text begins with a space, and rest follows it
 abbrev pub Spaced : List ℕ → List ℕ → Type 0
@@ -20,26 +20,25 @@ spaced (x ∷ text) rest s = grind (arith, common_steps)
 behind : (rest : List ℕ) (k : ℕ) → get_or (32 ∷ rest) (k + 1) 0 ≡ get_or rest k 0
 behind rest k = rw add-one refl
 
-width_is : (rest : List ℕ) (n w : ℕ) → UpToSpace rest n → Shape (32 ∷ rest) w → w ≡ n
-width_is rest n w u s =
-    elim (eq-zero-or-pos (w - n)) [
-      | inl p ↦ elim (eq-zero-or-pos (n - w)) [ inl q ↦ omega arith | inr q ↦ absurd (u.none w (omega arith) (omega (arith, s.ends (omega (arith, u.inside)), behind rest w))) ]
-      | inr p ↦ absurd (omega (arith, s.digits n (omega arith), behind rest n, u.ends (omega (arith, s.inside))))
-    ]
-
 -- the bytes before the next space are no number
-pub unread : {text rest digits : List ℕ} {n : ℕ} → Spaced text rest → UpToSpace rest n → digits ≡ take n rest → (Numeral digits → ⊥) → NoField text
-unread {text} {rest} {digits} {n} s u e bad = rw (spaced text rest s) (λ w h.
-    let is = width_is rest n w u h in
-    let long = length-take-le n rest u.inside in
-    bad (rw e (record {
+pub unread : {text rest : List ℕ} → Spaced text rest → NoNumber rest → NoField text
+unread {text} {rest} s bad = rw (spaced text rest s) (λ w h.
+    let inside : w ≤ length rest = omega (arith, h.inside) in
+    let long = length-take-le w rest inside in
+    bad w
+    (record {
+      inside = inside;
+      none = λ k less e. omega (arith, h.digits k less, behind rest k, e);
+      ends = λ more. sym (behind rest w) ∙ h.ends (omega arith);
+    })
+    (record {
       some = omega (arith, h.some);
       few = omega (arith, h.few);
       digits = λ k less.
           let d = h.digits k (omega arith) in
-          let at = get_or-take n rest k 0 (omega arith) in
+          let at = get_or-take w rest k 0 (omega arith) in
           (omega (arith, d, at, behind rest k), omega (arith, d, at, behind rest k));
-    })))
+    }))
 
 -- they are a number
 pub read : {text rest : List ℕ} {n number : ℕ} → Spaced text rest → UpToSpace rest n → Numeral (take n rest) → number ≡ digits_value 10 (take n rest) → Field text number (drop n rest)

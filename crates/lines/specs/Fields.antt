@@ -19,6 +19,10 @@ pub record UpToSpace (text : List ℕ) (width : ℕ) : Type 0 where
   pub none : (k : ℕ) → k < width → slice_index text k ≢ 32
   pub ends : width < length text → slice_index text width ≡ 32
 
+-- the bytes before the first space are not 1 to 10 digits
+abbrev pub NoNumber : List ℕ → Type 0
+NoNumber text = (width : ℕ) → UpToSpace text width → Numeral (take width text) → ⊥
+
 -- text begins with a space and then so many digits, after which it ends or has a space
 pub record Shape (text : List ℕ) (width : ℕ) : Type 0 where
   pub space : slice_index_or text 0 0 ≡ 32

@@ -1,46 +1,47 @@
 // The fields of a line.
-ghost use Rattle.std.specs.Prelude.{◌≡◌, ◌≤◌, length, Decides, MatchOption, MatchResult};
-ghost use Rattle.std.specs.Option.{SomeIff};
+ghost use Rattle.std.specs.Prelude.{◌≡◌, ◌≤◌, take, MatchOption, MatchResult};
 ghost use Rattle.std.specs.Str.Parse.{digits_value};
-ghost use Rattle.lines.specs.Fields.{Numeral, UpToSpace, Field, NoField, Reads, Malformed};
+ghost use Rattle.lines.specs.Fields.{Numeral, UpToSpace, NoNumber, Field, NoField, Reads, Malformed};
 
 use terms::refusal::Refusal;
 
 // So that a number fits u64 with room to spare.
 const MOST_DIGITS: usize = 10;
 
-// Whether the bytes are digits and not too many.
-fn is_numeral(text: &[u8]) -> bool
-    ensures { Decides result (Numeral text.now) }
+// The number that the bytes before the first space write, and how many they are, if they are digits and not too many.
+// They are gone over once: the library's `parse` takes text, and that bytes are text would be another walk.
+fn number(text: &[u8]) -> Option<(u64, usize)>
+    ensures { MatchOption result (NoNumber text.now) (λ p. UpToSpace text.now p.1 × Numeral (take p.1 text.now) × (p.0 ≡ digits_value 10 (take p.1 text.now))) }
 {
-    !text.is_empty() && text.len() <= MOST_DIGITS && text.iter().all(u8::is_ascii_digit)
-}
-
-// The number that the bytes write, if they are digits and not too many.
-fn number(text: &[u8]) -> Option<u64>
-    ensures { SomeIff result (Numeral text.now) (digits_value 10 text.now) }
-{
-    if !is_numeral(text) {
-        return None;
+    let mut number = 0;
+    for (width, byte) in text.iter().enumerate() {
+        if *byte == b' ' {
+            return if width > 0 {
+                Some((number, width))
+            } else {
+                None
+            };
+        }
+        if width >= MOST_DIGITS || !byte.is_ascii_digit() {
+            return None;
+        }
+        number = number * 10 + u64::from(*byte - b'0');
     }
-    std::str::from_utf8(text).ok()?.parse().ok()
-}
-
-// How many bytes stand before the first space.
-fn width_of(text: &[u8]) -> usize
-    ensures { UpToSpace text.now result }
-{
-    text.iter().position(|b| *b == b' ').unwrap_or(text.len())
+    if text.is_empty() {
+        None
+    } else {
+        Some((number, text.len()))
+    }
 }
 
 // The number of the field that `text` begins with, and what follows the field.
-#[tactic(auto, using(crate::proofs::Shapes::unspaced, crate::proofs::Shapes::read))]
+#[tactic(auto, using(crate::proofs::Shapes::unspaced))]
 fn field(text: &[u8]) -> Option<(u64, &[u8])>
     ensures { MatchOption result (NoField text.now) (λ p. Field text.now p.0 p.1.now) }
 {
     let rest = text.strip_prefix(b" ")?;
-    let (digits, after) = rest.split_at(width_of(rest));
-    Some((number(digits)?, after))
+    let (number, width) = number(rest)?;
+    Some((number, &rest[width..]))
 }
 
 // The numbers of the `N` fields that `text` is. No command has more than ten.
