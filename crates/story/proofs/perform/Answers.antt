@@ -1,5 +1,6 @@
 -- Each arm of the match, as one step of a story.
-use Rattle.std.proofs.Common.{refl, ap}
+use Rattle.std.proofs.Common.{◌≡◌, refl, ap, rules, MatchResult}
+use Rattle.calls.specs.declared.Answer.TheVariants.{Refused, Judged}
 use Rattle.study.specs.Sites.{plain}
 use Rattle.study.specs.Views.{rule_of, meaning}
 use Rattle.story.proofs.Performing.{performs_change, performs_judge}
@@ -27,5 +28,6 @@ returns-in-Drive g c =
 
 pub returns-in-Judge : goal.returns-in-Judge
 returns-in-Judge g c =
+    let told : MatchResult c.judge.result (λ j. c.into-in-Judge.result ≡ Judged j) (λ e. c.into-in-Judge.result ≡ Refused e) = search rules in
     performs_judge (meaning g.R.FrictionRule) (λ s. g.met.R.FrictionRule.within (rule_of s)) c.args.study.now
-    _ c.in-Judge.question c.judge.result _ (ap plain c.in-Judge.is) c.into-in-Judge.ensures c.judge.ensures
+    _ c.in-Judge.question c.judge.result _ (ap plain c.in-Judge.is) told c.judge.ensures
