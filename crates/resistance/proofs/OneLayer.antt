@@ -1,33 +1,32 @@
 -- One layer on in the fetching of frictions.
-use Rattle.std.proofs.Common.{◌≡◌, ℕ, ◌+◌, ◌-◌, ◌≤◌, min, true, ltb, not, List, [], ◌∷◌, ◌++◌, length, is_some, Some, Option, Ok, Err, Result, unwrap_or, sym, ap, ◌∙◌, arith}
-use Rattle.std.proofs.lemmas.Bool.{and_parts, cond_both}
-use Rattle.std.proofs.lemmas.List.{append_assoc}
-use Rattle.std.specs.List.{AllByRecursion}
-use Rattle.terms.specs.Limits.{ceiling_limits}
+use Rattle.std.proofs.Common.{◌≡◌, ℕ, ◌+◌, ◌-◌, ◌<◌, min, not, List, [], ◌∷◌, ◌++◌, length, get_or, drop, is_some, Some, Option, Ok, Err, Result, unwrap_or, sym, refl, ap, ◌∙◌, arith}
+use Rattle.std.proofs.lemmas.List.{at_drop_more, append_assoc}
 use Rattle.terms.specs.declared.refusal.Refusal.TheVariants.{NoFriction}
 use Rattle.terms.specs.Chains.{when, or_else}
 use Rattle.ground.specs.declared.layer.Layer.{Layer}
-use Rattle.ground.specs.Layers.{fit, sound}
+use Rattle.ground.specs.Edits.{no_layer}
 use Rattle.pile.specs.declared.numbers.PileNumbers.{PileNumbers}
 use Rattle.pile.specs.declared.frictions.Frictions.{Frictions}
 use Rattle.pile.specs.declared.frictions.Unfit.{Unfit}
 use Rattle.pile.specs.FrictionList.{friction_list, Pushes}
 use Rattle.pile.specs.Shaft.{ShaftPart, parts_above}
-use Rattle.pile.proofs.Bounds.{layer_bounds}
 use Rattle.resistance.specs.UnitFriction.{friction_of}
 use Rattle.resistance.specs.Fetched.{said_of, unsaid_from, frictions_of}
 
--- no more parts than layers
-pub few_parts : (d : ℕ) (ls : List Layer) → length (parts_above d ls) ≤ length ls
-few_parts d [] = omega arith
-few_parts d (l ∷ ls) = cond_both (ltb 0 d) (record { height = min l.thickness d; layer = l } ∷ parts_above (d - l.thickness) ls) [] (λ ss. length ss ≤ length (l ∷ ls)) (λ e. omega (arith, few_parts (d - l.thickness) ls)) (λ e. omega arith)
+pub no_parts : (ls : List Layer) → parts_above 0 ls ≡ []
+no_parts [] = refl
+no_parts (l ∷ ls) = refl
 
--- no ceiling above the greatest
-pub low_ceilings : (d : ℕ) (ls : List Layer) → sound ls ≡ true → AllByRecursion (λ s. s.layer.ceiling ≤ ceiling_limits.most) (parts_above d ls)
-low_ceilings d [] h = tt
-low_ceilings d (l ∷ ls) h =
-    let fits = and_parts (fit l) (sound ls) h in
-    cond_both (ltb 0 d) (record { height = min l.thickness d; layer = l } ∷ parts_above (d - l.thickness) ls) [] (AllByRecursion (λ s. s.layer.ceiling ≤ ceiling_limits.most)) (λ e. ((layer_bounds l fits.0).ceiling.1, low_ceilings (d - l.thickness) ls fits.1)) (λ e. tt)
+parts_next : (d : ℕ) (l : Layer) (ls : List Layer) → 0 < d → parts_above d (l ∷ ls) ≡ record { height = min l.thickness d; layer = l } ∷ parts_above (d - l.thickness) ls
+parts_next d l ls h = grind arith
+
+-- where the depth goes on below the top of a layer, its part is the first
+pub parts_here : (d below : ℕ) (ls : List Layer) (i : ℕ) → i < length ls → 0 < d → below ≡ d - (get_or ls i no_layer).thickness
+    → parts_above d (drop i ls) ≡ record { height = min (get_or ls i no_layer).thickness d; layer = get_or ls i no_layer } ∷ parts_above below (drop (i + 1) ls)
+parts_here d below ls i inside more e =
+    let l = get_or ls i no_layer in
+    let later = drop (i + 1) ls in
+    at_drop_more (parts_above d) ls i no_layer inside ∙ parts_next d l later more ∙ sym (ap (λ (b : ℕ). record { height = min l.thickness d; layer = l } ∷ parts_above b later) e)
 
 -- what fits is at the end of the list
 pub pushed : (old new : Frictions) (q : ℕ) (r : Result (Unit {0}) Unfit) (u : Unit {0}) → r ≡ Ok u → Pushes old q r new → friction_list new ≡ friction_list old ++ q ∷ []

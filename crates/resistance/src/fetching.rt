@@ -15,7 +15,6 @@ use ground::table::Ground;
 use pile::driven::Pile;
 use pile::frictions::Frictions;
 use pile::numbers::PileNumbers;
-use pile::parts::Parts;
 use terms::refusal::Refusal;
 
 // Pa in a kPa
@@ -46,18 +45,23 @@ pub fn fetch<R: FrictionRule>(rule: &R, ground: &Ground, pile: &Pile) -> Result<
 {
     let numbers = pile.numbers();
     let mut frictions = Frictions::new();
-    for (index, part) in Parts::above(numbers.length, ground.layers()).enumerate() {
+    let mut left = numbers.length;
+    for (index, layer) in ground.layers().iter().enumerate() {
+        if left == 0 {
+            break;
+        }
         let index = index as u64;
         let asking = Asking {
-            soil: part.layer.soil,
+            soil: layer.soil,
             category: numbers.category,
-            pressure: part.layer.pressure,
+            pressure: layer.pressure,
         };
         let answer = rule.ask(asking).ok_or(Refusal::NoFriction { index })?;
         // It always fits: a ground has no more layers than a list has places, and no friction of a layer is too great.
         frictions
-            .push(friction_of(&numbers, &part.layer, answer))
+            .push(friction_of(&numbers, layer, answer))
             .unwrap();
+        left = left.saturating_sub(layer.thickness);
     }
     Ok(frictions)
 }
